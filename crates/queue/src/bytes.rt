@@ -1,0 +1,91 @@
+// The queue of bytes.
+use crate::BytePut;
+use crate::ByteQueue;
+use crate::PLACES;
+ghost use mathlib.Core.Path.{_≡_};
+ghost use Prim.Native.Nat.{_<_, _≤_};
+ghost use mathlib.Core.List.{List};
+ghost use lib.ListN.{drop};
+ghost use Rattle.flag.specs.Flag.{allOf};
+ghost use Rattle.queue.specs.Queue.{putByte, takeByte, noBytes, zeroByte, shifted, byteRest};
+
+// The queue with no bytes.
+pub fn clear() -> ByteQueue
+    ensures { λ r. ⌜ r ≡ noBytes ⌝ }
+{
+    ByteQueue {
+        bytes: [0u8; 64],
+        count: 0,
+    }
+}
+
+// The queue of this capacity with b behind the last byte. A full one keeps its bytes, but a queue
+// of one place has its byte replaced.
+pub fn put(q: ByteQueue, capacity: u32, b: u8) -> BytePut
+    requires { ⌜ capacity ≤ 64 ⌝ }
+    ensures { λ r. ⌜ r ≡ putByte capacity q b ⌝ }
+{
+    let mut next = q;
+    let count = next.count;
+    if count < capacity {
+        let at = count as usize;
+        next.bytes[at] = b;
+        next.count = count + 1;
+        return BytePut {
+            queue: next,
+            full: false,
+        };
+    }
+    if capacity == 1 {
+        next.bytes[0] = b;
+        return BytePut {
+            queue: next,
+            full: true,
+        };
+    }
+    BytePut {
+        queue: next,
+        full: true,
+    }
+}
+
+// The bytes one place down, the oldest gone and the last place zero.
+fn shift(bytes: [u8; 64]) -> [u8; 64]
+    ensures { λ r. ⌜ r ≡ shifted 0 bytes ⌝ }
+{
+    let mut next = [0u8; 64];
+    let mut i: usize = 0;
+    while i < PLACES - 1 {
+        next[i] = bytes[i + 1];
+        i += 1;
+    }
+    next
+}
+
+// The queue without its oldest byte.
+pub fn take(q: ByteQueue) -> ByteQueue
+    requires { ⌜ 0 < q .count ⌝ }
+    ensures { λ r. ⌜ r ≡ takeByte q ⌝ }
+{
+    let bytes = q.bytes;
+    let count = q.count;
+    ByteQueue {
+        bytes: shift(bytes),
+        count: count - 1,
+    }
+}
+
+// Whether every place from `count` on is zero.
+pub fn rest_is_zero(q: ByteQueue) -> bool
+    ensures { λ r. ⌜ r ≡ byteRest q ⌝ }
+{
+    let bytes = q.bytes;
+    let mut i = q.count as usize;
+    while i < PLACES {
+        if bytes[i] != 0 {
+            return false;
+        }
+        i += 1;
+    }
+    true
+}

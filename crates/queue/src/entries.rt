@@ -1,0 +1,187 @@
+// The queue of received entries.
+use crate::Entry;
+use crate::EntryPut;
+use crate::EntryQueue;
+use crate::PLACES;
+ghost use mathlib.Core.Path.{_≡_};
+ghost use Prim.Native.Nat.{_<_, _≤_};
+ghost use mathlib.Core.Bool.{_&&_};
+ghost use lib.ListN.{drop, length};
+ghost use lib.Dec.{leb};
+ghost use Rattle.flag.specs.Flag.{allOf};
+ghost use Rattle.queue.specs.Queue.{putEntry, takeEntry, noEntries, noEntry, zeroEntry, shifted, entryRest, flagsInRange, entryFlags, hasError, entryErrors};
+
+// The entry of a place not in use.
+pub fn none() -> Entry
+    ensures { λ r. ⌜ r ≡ noEntry ⌝ }
+{
+    Entry {
+        byte: 0,
+        pe: 0,
+        fe: 0,
+        bi: 0,
+    }
+}
+
+// The queue with no entries.
+pub fn clear() -> EntryQueue
+    ensures { λ r. ⌜ r ≡ noEntries ⌝ }
+{
+    let e = none();
+    EntryQueue {
+        entries: [e; 64],
+        count: 0,
+    }
+}
+
+// The queue of this capacity with e behind the last entry. A full one keeps its entries, but a
+// queue of one place has its entry replaced.
+pub fn put(q: EntryQueue, capacity: u32, e: Entry) -> EntryPut
+    requires { ⌜ capacity ≤ 64 ⌝ }
+    ensures { λ r. ⌜ r ≡ putEntry capacity q e ⌝ }
+{
+    let mut next = q;
+    let count = next.count;
+    if count < capacity {
+        let at = count as usize;
+        next.entries[at] = e;
+        next.count = count + 1;
+        return EntryPut {
+            queue: next,
+            full: false,
+        };
+    }
+    if capacity == 1 {
+        next.entries[0] = e;
+        return EntryPut {
+            queue: next,
+            full: true,
+        };
+    }
+    EntryPut {
+        queue: next,
+        full: true,
+    }
+}
+
+// The entries one place down, the oldest gone and the last place zero.
+fn shift(entries: [Entry; 64]) -> [Entry; 64]
+    ensures { λ r. ⌜ r ≡ shifted noEntry entries ⌝ }
+{
+    let e = none();
+    let mut next = [e; 64];
+    let mut i: usize = 0;
+    while i < PLACES - 1 {
+        let x = entries[i + 1];
+        next[i] = x;
+        i += 1;
+    }
+    next
+}
+
+// The queue without its oldest entry.
+pub fn take(q: EntryQueue) -> EntryQueue
+    requires { ⌜ 0 < q .count ⌝ }
+    ensures { λ r. ⌜ r ≡ takeEntry q ⌝ }
+{
+    let entries = q.entries;
+    let count = q.count;
+    EntryQueue {
+        entries: shift(entries),
+        count: count - 1,
+    }
+}
+
+// Whether the entry is that of a place not in use.
+fn is_zero(e: Entry) -> bool
+    ensures { λ r. ⌜ r ≡ zeroEntry e ⌝ }
+{
+    if e.byte != 0 {
+        return false;
+    }
+    if e.pe != 0 {
+        return false;
+    }
+    if e.fe != 0 {
+        return false;
+    }
+    e.bi == 0
+}
+
+// Whether the entry's flags are each 0 or 1.
+fn flags_in_range(e: Entry) -> bool
+    ensures { λ r. ⌜ r ≡ flagsInRange e ⌝ }
+{
+    if 1 < e.pe {
+        return false;
+    }
+    if 1 < e.fe {
+        return false;
+    }
+    e.bi <= 1
+}
+
+// Whether the entry has an error.
+pub fn has_error(e: Entry) -> bool
+    ensures { λ r. ⌜ r ≡ hasError e ⌝ }
+{
+    if e.pe == 1 {
+        return true;
+    }
+    if e.fe == 1 {
+        return true;
+    }
+    e.bi == 1
+}
+
+// Whether every place from `count` on is zero.
+pub fn rest_is_zero(q: EntryQueue) -> bool
+    ensures { λ r. ⌜ r ≡ entryRest q ⌝ }
+{
+    let entries = q.entries;
+    let mut i = q.count as usize;
+    while i < PLACES {
+        let e = entries[i];
+        if !is_zero(e) {
+            return false;
+        }
+        i += 1;
+    }
+    true
+}
+
+// Whether the flags of every entry are each 0 or 1.
+pub fn flags_are_bits(q: EntryQueue) -> bool
+    ensures { λ r. ⌜ r ≡ entryFlags q ⌝ }
+{
+    let entries = q.entries;
+    let mut i: usize = 0;
+    while i < PLACES {
+        let e = entries[i];
+        if !flags_in_range(e) {
+            return false;
+        }
+        i += 1;
+    }
+    true
+}
+
+// Whether some entry in the queue has an error.
+pub fn any_error(q: EntryQueue) -> bool
+    ensures { λ r. ⌜ r ≡ entryErrors q ⌝ }
+{
+    let entries = q.entries;
+    let count = q.count as usize;
+    let mut i: usize = 0;
+    while i < PLACES {
+        if count <= i {
+            return false;
+        }
+        let e = entries[i];
+        if has_error(e) {
+            return true;
+        }
+        i += 1;
+    }
+    false
+}
