@@ -1,0 +1,107 @@
+// Frames: what a format (bits 0..5 of LCR) makes of a byte on the line.
+//
+// Numbers and lists only. The contracts cite `specs/Format.antt` and `specs/Frame.antt`.
+ghost use mathlib.Core.Path.{_≡_};
+ghost use Prim.Native.Nat.{_≤_, _<_, _+_, _*_, _/_, _%_};
+ghost use lib.ListN.{getD};
+ghost use Rattle.frame.specs.Format.{dataBits, parityBits, stopPulses, frameLength, characterOf, ones, parityBit};
+ghost use Rattle.frame.specs.Frame.{frameLevels};
+
+// The bits of a format, as LCR has them.
+pub const LCR_STOP: u8 = 0x04;
+
+pub const LCR_PARITY: u8 = 0x08;
+
+pub const LCR_EVEN: u8 = 0x10;
+
+pub const LCR_STICK: u8 = 0x20;
+
+// Data bits, 5 to 8.
+pub fn data_bits(format: u8) -> u32
+    ensures { λ r. ⌜ (r ≡ dataBits format) × (r ≤ 8) ⌝ }
+{
+    5 + (format % 4) as u32
+}
+
+// Parity bits, 0 or 1.
+pub fn parity_bits(format: u8) -> u32
+    ensures { λ r. ⌜ (r ≡ parityBits format) × (r ≤ 1) ⌝ }
+{
+    (format / LCR_PARITY % 2) as u32
+}
+
+// Pulses of the stop.
+fn stop_pulses(format: u8) -> u32
+    ensures { λ r. ⌜ (r ≡ stopPulses format) × (r ≤ 32) ⌝ }
+{
+    if !flag::has(format, LCR_STOP) {
+        return 16;
+    }
+    if data_bits(format) == 5 {
+        return 24;
+    }
+    32
+}
+
+// F, the pulses of a frame.
+pub fn frame_length(format: u8) -> u32
+    ensures { λ r. ⌜ r ≡ frameLength format ⌝ }
+    ensures { λ r. ⌜ (112 ≤ r) × (r ≤ 192) ⌝ }
+{
+    16 * (1 + data_bits(format) + parity_bits(format)) + stop_pulses(format)
+}
+
+// The byte's bits within the word length.
+fn character(byte: u8, format: u8) -> u8
+    ensures { λ r. ⌜ r ≡ characterOf byte format ⌝ }
+{
+    match format % 4 {
+        0 => byte % 32,
+        1 => byte % 64,
+        2 => byte % 128,
+        _ => byte,
+    }
+}
+
+// The ones of a byte.
+fn ones_of(x: u8) -> u8
+    ensures { λ r. ⌜ (r ≡ ones 8 x) × (r ≤ 8) ⌝ }
+{
+    x % 2 + x / 2 % 2 + x / 4 % 2 + x / 8 % 2 + x / 16 % 2 + x / 32 % 2 + x / 64 % 2 + x / 128 % 2
+}
+
+// The parity bit that a frame of this byte has in this format.
+pub fn parity_bit(byte: u8, format: u8) -> u8
+    ensures { λ r. ⌜ (r ≡ parityBit byte format) × (r < 2) ⌝ }
+{
+    let even = flag::has(format, LCR_EVEN);
+    if flag::has(format, LCR_STICK) {
+        return flag::bit(!even);
+    }
+    let x = character(byte, format);
+    if even {
+        return ones_of(x) % 2;
+    }
+    (1 + ones_of(x)) % 2
+}
+
+// The level of the frame of this byte at a place, counted from 0 in pulses; high after the frame.
+pub fn frame_level(byte: u8, format: u8, place: u32) -> u8
+    ensures { λ r. ⌜ (r ≡ getD (frameLevels byte format) place 1) × (r < 2) ⌝ }
+{
+    let at = place / 16;
+    let last = data_bits(format);
+    if at == 0 {
+        return 0;
+    }
+    if at <= last {
+        return (byte >> (at - 1)) % 2;
+    }
+    if at == last + 1 {
+        if flag::has(format, LCR_PARITY) {
+            return parity_bit(byte, format);
+        }
+        return 1;
+    }
+    1
+}
