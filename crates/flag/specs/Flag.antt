@@ -1,6 +1,6 @@
--- Flags and tests. `on`, `bit`, `bitOf`, `every`, `allOf` and `anyOf` are what the definitions of the other crates are made of.
-use Prim.Native.Nat.{ℕ, _/_, _%_, _^_}
-use mathlib.Core.Bool.{Bool, true, false, cond, _&&_, _||_}
+-- Flags and tests. What the definitions of the other crates are made of.
+use Prim.Native.Nat.{ℕ, _+_, _*_, _/_, _%_, _^_}
+use mathlib.Core.Bool.{Bool, true, false, cond, not, _&&_, _||_}
 use mathlib.Core.List.{List, [], _∷_}
 use lib.Dec.{eqb}
 
@@ -15,6 +15,19 @@ bit n x = eqb (x / 2 ^ n % 2) 1
 -- a test as a flag
 abbrev pub bitOf : Bool → ℕ
 bitOf b = cond b 1 0
+
+-- the byte with these bits, bit 0 first
+abbrev pub byteOf : List Bool → ℕ
+byteOf [] = 0
+byteOf (b ∷ bs) = bitOf b + 2 * byteOf bs
+
+-- where a holds, b does
+abbrev pub implies : Bool → Bool → Bool
+implies a b = cond a b true
+
+-- one of the two holds, and not both
+abbrev pub differ : Bool → Bool → Bool
+differ a b = cond a (not b) b
 
 -- every test of a list holds
 abbrev pub every : List Bool → Bool

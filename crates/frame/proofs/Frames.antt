@@ -1,6 +1,6 @@
 -- Laws of frames: F levels in each, F between 112 and 192, and the level at a place by division.
 use Prim.Native.Nat.{ℕ, zero, suc, _+_, _-_, _*_, _/_, _%_, _^_, _≤_, _<_}
-use native.Mathlib.Nat.{div-eq-of-lt, div-eq-sub-div, div-div-eq-div-mul, div-one, pow-succ', suc-mul}
+use native.Mathlib.Nat.{div-eq-of-lt, div-eq-sub-div, div-div-eq-div-mul, div-one, pow-succ', suc-mul, add-zero}
 use native.Mathlib.Numerals.{add-one}
 use native.Mathlib.Decide.{decLt}
 use native.Mathlib.Omega.{arith}
@@ -9,12 +9,13 @@ use mathlib.Core.Bool.{Bool, true, false, cond}
 use mathlib.Core.List.{List, [], _∷_, _++_}
 use mathlib.Core.Logic.{_⊎_, inl, inr, ⊎-elim}
 use lib.ListN.{length, getD, replicate, length-append, length-replicate, getD-replicate, List·getD-append, List·getD-eq-default}
-use lib.Seq.{getD-append-add}
+use lib.Seq.{getD-append-add, getD-drop}
+use borrow.Author.Tests.{ne-eqb}
 use lib.Dec.{eqb}
 use Rattle.flag.specs.Flag.{bit}
 use Rattle.flag.proofs.Laws.{by-test}
 use Rattle.frame.specs.Format.{dataBits, parityBits, stopPulses, frameLength, parityBit}
-use Rattle.frame.specs.Frame.{bits, frameBits, stretch, frameLevels}
+use Rattle.frame.specs.Frame.{bits, frameBits, stretch, frameLevels, lineLevel}
 
 less-or-not : (a b : ℕ) → (a < b) ⊎ (b ≤ a)
 less-or-not a b = elim (decLt a b) [ yes h ↦ inl h | no h ↦ inr (omega arith) ]
@@ -121,3 +122,11 @@ level-parity x f i e one =
 pub level-stop : (x f i : ℕ) → 1 + dataBits f + parityBits f ≤ i / 16 → getD (frameLevels x f) i 1 ≡ 1
 level-stop x f i l =
     level-in-frame x f i ∙ List·getD-eq-default (frameBits x f) 1 (rw length-frame-bits l)
+
+-- the line while a frame is sent is the level at the place that L leaves
+pub line-place : (l x f : ℕ) → (l ≡ 0 → ⊥) → lineLevel l x f ≡ getD (frameLevels x f) (frameLength f - l) 1
+unfolding lineLevel
+line-place l x f n =
+    simp (ne-eqb l 0 n)
+    (getD-drop (length (frameLevels x f) - l) (frameLevels x f) 0 1
+    ∙ ap (λ (m : ℕ). getD (frameLevels x f) m 1) (add-zero (length (frameLevels x f) - l) ∙ ap (λ (m : ℕ). m - l) (length-frame-levels x f)))

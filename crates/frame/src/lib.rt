@@ -5,7 +5,7 @@ ghost use mathlib.Core.Path.{_≡_};
 ghost use Prim.Native.Nat.{_≤_, _<_, _+_, _*_, _/_, _%_};
 ghost use lib.ListN.{getD};
 ghost use Rattle.frame.specs.Format.{dataBits, parityBits, stopPulses, frameLength, characterOf, ones, parityBit};
-ghost use Rattle.frame.specs.Frame.{frameLevels};
+ghost use Rattle.frame.specs.Frame.{frameLevels, lineLevel};
 
 // The bits of a format, as LCR has them.
 pub const LCR_STOP: u8 = 0x04;
@@ -104,4 +104,15 @@ pub fn frame_level(byte: u8, format: u8, place: u32) -> u8
         return 1;
     }
     1
+}
+
+// The transmitter's line with `left` pulses left of the frame of this byte.
+pub fn line_level(left: u32, byte: u8, format: u8) -> u8
+    requires { ⌜ left ≤ frameLength format ⌝ }
+    ensures { λ r. ⌜ (r ≡ lineLevel left byte format) × (r < 2) ⌝ }
+{
+    if left == 0 {
+        return 1;
+    }
+    frame_level(byte, format, frame_length(format) - left)
 }

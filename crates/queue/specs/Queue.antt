@@ -2,7 +2,7 @@
 -- index 0, places beyond the count zero. What a put, a take and a test of the rest do is said once, over the element;
 -- `putByte`, `takeByte`, `byteRest` and `putEntry`, `takeEntry`, `entryRest` say it of each queue.
 use Prim.Native.Nat.{ℕ, _+_, _-_}
-use mathlib.Core.Bool.{Bool, true, false, cond, _&&_, _||_}
+use mathlib.Core.Bool.{Bool, cond, _&&_, _||_}
 use mathlib.Core.List.{List, [], _∷_, _++_}
 use lib.ListN.{take, drop, set, replicate}
 use lib.Dec.{ltb, leb, eqb}

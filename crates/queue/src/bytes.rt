@@ -4,10 +4,7 @@ use crate::ByteQueue;
 use crate::PLACES;
 ghost use mathlib.Core.Path.{_≡_};
 ghost use Prim.Native.Nat.{_<_, _≤_};
-ghost use mathlib.Core.List.{List};
-ghost use lib.ListN.{drop};
-ghost use Rattle.flag.specs.Flag.{allOf};
-ghost use Rattle.queue.specs.Queue.{putByte, takeByte, noBytes, zeroByte, shifted, byteRest};
+ghost use Rattle.queue.specs.Queue.{putByte, takeByte, noBytes, shifted, byteRest};
 
 // The queue with no bytes.
 pub fn clear() -> ByteQueue

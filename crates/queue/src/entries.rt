@@ -5,10 +5,6 @@ use crate::EntryQueue;
 use crate::PLACES;
 ghost use mathlib.Core.Path.{_≡_};
 ghost use Prim.Native.Nat.{_<_, _≤_};
-ghost use mathlib.Core.Bool.{_&&_};
-ghost use lib.ListN.{drop, length};
-ghost use lib.Dec.{leb};
-ghost use Rattle.flag.specs.Flag.{allOf};
 ghost use Rattle.queue.specs.Queue.{putEntry, takeEntry, noEntries, noEntry, zeroEntry, shifted, entryRest, flagsInRange, entryFlags, hasError, entryErrors};
 
 // The entry of a place not in use.

@@ -1,8 +1,8 @@
 // The two queues of the device: bytes to transmit, and received entries (a byte with its error flags).
 //
 // Each is a struct by value: an array of 64 places and the count in use, oldest at index 0, places
-// beyond the count zero. The contracts cite `specs/Queue.antt`; the facts about contents are stated
-// there over lists, once for both.
+// beyond the count zero. The contracts cite `specs/Queue.antt`; `proofs/Contents.antt` has the facts
+// about what is queued, over lists, once for both.
 pub mod bytes;
 pub mod entries;
 

@@ -1,0 +1,20 @@
+-- The divisor latches (SLLS191C, "programmable baud generator"; document 01, "Registers").
+use Prim.Native.Nat.{ℕ, _+_, _*_, _/_, _%_}
+use Rattle.device.specs.declared.State.{State}
+use Rattle.device.specs.State.{withBaud}
+
+-- writing either divisor byte sets k = the new D
+abbrev pub withDivisor : State → ℕ → State
+withDivisor s d = withBaud s (record { divisor = d; k = d })
+
+abbrev pub divisorLow : State → ℕ
+divisorLow s = s .baud .divisor % 256
+
+abbrev pub divisorHigh : State → ℕ
+divisorHigh s = s .baud .divisor / 256
+
+unfoldable pub divisorLowWrite : State → ℕ → State
+divisorLowWrite s b = withDivisor s (256 * divisorHigh s + b)
+
+unfoldable pub divisorHighWrite : State → ℕ → State
+divisorHighWrite s b = withDivisor s (256 * b + divisorLow s)

@@ -1,0 +1,16 @@
+-- IER, interrupt enable register (SLLS191C, "interrupt enable register (IER)"; document 01, "IER write").
+use Prim.Native.Nat.{ℕ, _%_}
+use mathlib.Core.Bool.{Bool, cond, not, _&&_}
+use lib.Dec.{eqb}
+use Rattle.flag.specs.Flag.{bit}
+use Rattle.device.specs.declared.State.{State}
+use Rattle.device.specs.State.{withRegisters, withLatches}
+use Rattle.device.specs.Thr.{withEmpty}
+
+-- low six bits. Raising bit 1 with the transmit queue empty sets the transmit-empty latch (house rule)
+unfoldable pub ierWrite : State → ℕ → State
+ierWrite s b =
+    withLatches
+    (withRegisters s
+    (record { ier = b % 64; mcr = s .registers .mcr; lcr = s .registers .lcr; scr = s .registers .scr }))
+    (cond (not (bit 1 (s .registers .ier)) && (bit 1 b && eqb (s .tx .count) 0)) (withEmpty (s .latches) 1) (s .latches))

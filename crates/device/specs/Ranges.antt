@@ -1,0 +1,115 @@
+-- A well-formed state obeys these ranges; any other is refused (document 01, "The state"). They come in five groups; a
+-- range that joins two groups stands in the later one. That an array has 64 places and a byte is below 256 is what the
+-- types of src/lib.rt say, and no range.
+use Prim.Native.Nat.{ℕ, _+_, _-_, _*_, _/_, _^_, min}
+use mathlib.Core.Bool.{Bool, true, cond, not, _&&_, _||_}
+use mathlib.Core.List.{List, [], _∷_}
+use lib.Dec.{leb, ltb, eqb}
+use Rattle.flag.specs.Flag.{on, bit, every, implies}
+use Rattle.frame.specs.Format.{dataBits, parityBits, frameLength}
+use Rattle.queue.specs.declared.ByteQueue.{ByteQueue}
+use Rattle.queue.specs.declared.EntryQueue.{EntryQueue}
+use Rattle.queue.specs.Queue.{byteRest, entryRest, entryFlags}
+use Rattle.device.specs.declared.Registers.{Registers}
+use Rattle.device.specs.declared.Baud.{Baud}
+use Rattle.device.specs.declared.FifoControl.{FifoControl}
+use Rattle.device.specs.declared.Inputs.{Inputs}
+use Rattle.device.specs.declared.Frame.{Frame}
+use Rattle.device.specs.declared.Receiver.{Receiver}
+use Rattle.device.specs.declared.Latches.{Latches}
+use Rattle.device.specs.declared.State.{State}
+use Rattle.device.specs.Fifo.{capacity, triggerLevel}
+use Rattle.device.specs.Autoflow.{autoflow, autoRts}
+
+-- Group 1: registers, divisor and k.
+abbrev pub registerRanges : Registers → Baud → List Bool
+registerRanges r b =
+    leb (r .ier) 63  -- IER 0..63
+    ∷ leb (r .mcr) 63  -- MCR 0..63
+    ∷ leb (r .lcr) 255  -- LCR 0..255
+    ∷ leb (r .scr) 255  -- SCR 0..255
+    ∷ leb (b .divisor) 65535  -- D 0..65535
+    ∷ cond (eqb (b .divisor) 0) (eqb (b .k) 0) (leb 1 (b .k) && leb (b .k) (b .divisor))  -- k: 0 if D = 0, else 1..D
+    ∷ []
+
+-- Group 2: FIFO settings and pins.
+abbrev pub settingRanges : FifoControl → Inputs → List Bool
+settingRanges f i =
+    leb (f .enabled) 1  -- FIFO on or off
+    ∷ leb (f .size) 1  -- size bit
+    ∷ leb (f .dma) 1  -- DMA bit
+    ∷ leb (f .trigger) 3  -- trigger code 0..3
+    ∷ leb (i .modem) 15  -- modem pins 0..15
+    ∷ leb (i .sin) 1  -- SIN 0 or 1
+    ∷ []
+
+-- Group 3: transmit queue and frame.
+abbrev pub transmitRanges : FifoControl → ByteQueue → Frame → List Bool
+transmitRanges f q x =
+    leb (q .count) (capacity f)  -- count within the capacity
+    ∷ byteRest q  -- places beyond the count are zero
+    ∷ leb (x .left) 192  -- L 0..192
+    ∷ leb (x .format) 63  -- format 0..63
+    ∷ leb (x .left) (frameLength (x .format))  -- L is at most that frame's length
+    ∷ implies (eqb (x .left) 0) (eqb (x .byte) 0 && eqb (x .format) 0)  -- all zero if L = 0
+    ∷ []
+
+-- the position of the first stop sample, which ends a character: samples fall at 8, 24, 40 and so on
+abbrev pub stopPosition : ℕ → ℕ
+stopPosition f = 8 + 16 * (1 + dataBits f + parityBits f)
+
+-- the data and parity samples taken up to position P: the first falls at 24
+abbrev pub samplesTaken : ℕ → ℕ
+samplesTaken p = (p - 8) / 16
+
+-- in a character
+abbrev pub characterRanges : Receiver → List Bool
+characterRanges v =
+    leb (v .format) 63  -- format 0..63
+    ∷ ltb (v .position) (stopPosition (v .format))  -- P is below its stop position
+    ∷ ltb (v .samples) (2 ^ min (dataBits (v .format)) (samplesTaken (v .position)))  -- data not yet sampled zero
+    ∷ leb (v .parity) (min (parityBits (v .format)) (samplesTaken (v .position) - dataBits (v .format)))  -- parity the same: none, or 1 sample
+    ∷ []
+
+-- not in a character
+abbrev pub outsideRanges : Receiver → List Bool
+outsideRanges v = eqb (v .format) 0 ∷ eqb (v .position) 0 ∷ eqb (v .samples) 0 ∷ eqb (v .parity) 0 ∷ []
+
+-- Group 4: receive queue and receiver.
+abbrev pub receiveRanges : FifoControl → EntryQueue → Receiver → List Bool
+receiveRanges f q v =
+    leb (q .count) (capacity f)  -- count within the capacity
+    ∷ entryRest q  -- places beyond the count are zero
+    ∷ entryFlags q  -- PE, FE, BI 0 or 1
+    ∷ leb (v .phase) 2  -- idle, waiting for mark, in a character
+    ∷ cond (eqb (v .phase) 2) (every (characterRanges v)) (every (outsideRanges v))
+    ∷ []
+
+-- Group 5: latches, idle count, change bits, hold; m bytes are queued to transmit, n received.
+abbrev pub latchRanges : Registers → FifoControl → ℕ → ℕ → Latches → List Bool
+latchRanges r f m n l =
+    leb (l .empty) 1
+    ∷ implies (on (l .empty)) (eqb m 0)  -- transmit-empty latch only with an empty queue
+    ∷ leb (l .overrun) 1  -- OE
+    ∷ leb (l .timeout) 1
+    ∷ implies (on (l .timeout)) (on (f .enabled) && ltb 0 n)  -- time-out latch only with FIFO on and data waiting
+    ∷ leb (l .idle) 769  -- idle count 0..769
+    ∷ implies (not (on (f .enabled)) || eqb n 0) (eqb (l .idle) 0)  -- 0 if the queue is empty or the FIFO off
+    ∷ leb (l .changes) 15  -- four change bits
+    ∷ implies (autoflow r f) (not (bit 0 (l .changes)))  -- the CTS change bit is 0 with autoflow on
+    ∷ leb (l .hold) 1
+    ∷ implies (not (autoRts r f)) (eqb (l .hold) 0)  -- hold: 0 without auto-RTS
+    ∷ implies (autoRts r f && leb (triggerLevel f) n) (eqb (l .hold) 1)  -- 1 at or above the trigger
+    ∷ implies (eqb n 0) (eqb (l .hold) 0)  -- 0 when the count is 0
+    ∷ []
+
+-- every range of every group holds
+unfoldable pub wellFormed : State → Bool
+wellFormed s =
+    every
+    (every (registerRanges (s .registers) (s .baud))
+    ∷ every (settingRanges (s .fifo) (s .inputs))
+    ∷ every (transmitRanges (s .fifo) (s .tx) (s .frame))
+    ∷ every (receiveRanges (s .fifo) (s .rx) (s .receiver))
+    ∷ every (latchRanges (s .registers) (s .fifo) (s .tx .count) (s .rx .count) (s .latches))
+    ∷ [])

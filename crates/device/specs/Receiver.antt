@@ -1,0 +1,111 @@
+-- The receiver's part of a pulse, on SIN or the looped line (document 01, "A tick", 2, and "Receiver").
+use Prim.Native.Nat.{ℕ, _+_, _-_, _*_, _/_, _%_, _^_}
+use mathlib.Core.Bool.{Bool, true, false, cond, not, _&&_}
+use lib.Dec.{ltb, eqb}
+use Rattle.flag.specs.Flag.{bitOf, on}
+use Rattle.frame.specs.Format.{formatOf, dataBits, parityBits, parityBit}
+use Rattle.queue.specs.declared.Entry.{Entry}
+use Rattle.queue.specs.Queue.{noEntry, putEntry, isFull}
+use Rattle.device.specs.declared.Receiver.{Receiver}
+use Rattle.device.specs.declared.Received.{Received}
+use Rattle.device.specs.declared.State.{State}
+use Rattle.device.specs.State.{withRx, withReceiver, withLatches, idleReceiver}
+use Rattle.device.specs.Fifo.{capacity}
+use Rattle.device.specs.Modem.{loopback}
+use Rattle.device.specs.Ranges.{stopPosition, samplesTaken}
+use Rattle.device.specs.Transmitter.{line}
+
+-- no character ended
+abbrev pub goesOn : Receiver → Received
+goesOn v = record { receiver = v; ended = false; entry = noEntry }
+
+-- a character begins at position p, its format from LCR
+abbrev pub startAt : ℕ → ℕ → Receiver
+startAt p lcr = record { phase = 2; format = formatOf lcr; samples = 0; parity = 0; position = p }
+
+-- the receiver waits until a pulse sees high
+abbrev pub waiting : Receiver
+waiting = record { phase = 1; format = 0; samples = 0; parity = 0; position = 0 }
+
+-- the entry of a character whose stop sample is h: PE where the parity differs, FE where the stop is low, BI where every
+-- sample is low
+abbrev pub isBreak : Receiver → ℕ → Bool
+isBreak v h = eqb (v .samples) 0 && (eqb (v .parity) 0 && eqb h 0)
+
+unfoldable pub entryOf : Receiver → ℕ → Entry
+entryOf v h =
+    record {
+      byte = v .samples;
+      pe = bitOf (eqb (parityBits (v .format)) 1 && not (eqb (v .parity) (parityBit (v .samples) (v .format))));
+      fe = bitOf (eqb h 0);
+      bi = bitOf (isBreak v h);
+    }
+
+-- the first stop sample h ends the character. After a break the receiver waits for mark; after FE without break the low
+-- sample counts as the next start bit at P = 8, format taken anew (house rule); otherwise it is idle
+unfoldable pub stopSample : ℕ → ℕ → Receiver → Received
+stopSample h lcr v =
+    record {
+      receiver = cond (isBreak v h) waiting (cond (eqb h 0) (startAt 8 lcr) idleReceiver);
+      ended = true;
+      entry = entryOf v h;
+    }
+
+-- the character with the sample h that falls at position p: data from bit 0, then parity
+unfoldable pub sampled : ℕ → ℕ → Receiver → Receiver
+sampled h p v =
+    let n = samplesTaken p - 1 in
+    cond (ltb n (dataBits (v .format)))
+    (record { phase = 2; format = v .format; samples = v .samples + h * 2 ^ n; parity = 0; position = p })
+    (record { phase = 2; format = v .format; samples = v .samples; parity = h; position = p })
+
+-- in a character, at its next position p: samples fall at 8, 24, 40 and so on; high at 8 is a false start
+unfoldable pub inCharacter : ℕ → ℕ → ℕ → Receiver → Received
+inCharacter h lcr p v =
+    cond (eqb (p % 16) 8)
+    (cond (eqb p 8)
+    (cond (eqb h 1) (goesOn idleReceiver) (goesOn (record { phase = 2; format = v .format; samples = v .samples; parity = v .parity; position = p })))
+    (cond (eqb p (stopPosition (v .format))) (stopSample h lcr v) (goesOn (sampled h p v))))
+    (goesOn (record { phase = 2; format = v .format; samples = v .samples; parity = v .parity; position = p }))
+
+-- what a pulse that hears the level h makes of the receiver. Idle and low begins a character, P = 0; each later pulse adds
+-- 1 to P; waiting for mark ends on high
+unfoldable pub receive : ℕ → ℕ → Receiver → Received
+receive h lcr v =
+    cond (eqb (v .phase) 2)
+    (inCharacter h lcr (v .position + 1) v)
+    (cond (eqb (v .phase) 1)
+    (goesOn (cond (eqb h 1) idleReceiver v))
+    (goesOn (cond (eqb h 0) (startAt 0 lcr) v)))
+
+-- the level that the receiver hears: in loopback the transmitter's line, else SIN
+unfoldable pub heard : State → ℕ
+heard s = cond (loopback (s .registers)) (line (s .frame)) (s .inputs .sin)
+
+-- what this pulse makes of the receiver
+abbrev pub reception : State → Received
+reception s = receive (heard s) (s .registers .lcr) (s .receiver)
+
+-- a character enters the queue in this pulse
+unfoldable pub enters : State → Bool
+enters s = reception s .ended && not (isFull (capacity (s .fifo)) (s .rx .count))
+
+-- an entry is put into the queue. A full queue sets OE; with FIFO on the new character is lost, in character mode it
+-- replaces the old
+unfoldable pub entered : State → Entry → State
+entered s e =
+    let p = putEntry (capacity (s .fifo)) (s .rx) e in
+    withLatches (withRx s (p .queue))
+    (record {
+      empty = s .latches .empty;
+      overrun = cond (p .full) 1 (s .latches .overrun);
+      timeout = s .latches .timeout;
+      changes = s .latches .changes;
+      hold = s .latches .hold;
+      idle = s .latches .idle;
+    })
+
+unfoldable pub received : State → State
+received s =
+    let r = reception s in
+    cond (r .ended) (entered (withReceiver s (r .receiver)) (r .entry)) (withReceiver s (r .receiver))

@@ -1,0 +1,73 @@
+// Autoflow, and the rules that end every step.
+use crate::FifoControl;
+use crate::Inputs;
+use crate::Registers;
+use crate::State;
+use crate::fifo;
+use crate::modem;
+ghost use mathlib.Core.Path.{_≡_};
+ghost use Rattle.device.specs.Autoflow.{autoflow as «autoflow-of», autoRts, held as «held-of», settledChanges, settledHold, settled};
+
+// Whether autoflow is on.
+pub fn autoflow(r: Registers, f: FifoControl) -> bool
+    ensures { λ a. ⌜ a ≡ «autoflow-of» r f ⌝ }
+{
+    flag::both(flag::has(r.mcr, modem::MCR_AUTOFLOW), f.enabled == 1)
+}
+
+// Whether auto-RTS is on.
+pub fn auto_rts(r: Registers, f: FifoControl) -> bool
+    ensures { λ a. ⌜ a ≡ autoRts r f ⌝ }
+{
+    flag::both(autoflow(r, f), flag::has(r.mcr, modem::MCR_RTS))
+}
+
+// Whether flow control holds the transmitter.
+pub fn held(r: Registers, f: FifoControl, i: Inputs) -> bool
+    ensures { λ h. ⌜ h ≡ «held-of» r f i ⌝ }
+{
+    flag::both(
+        autoflow(r, f),
+        !flag::has(modem::effective_levels(r, i), modem::CTS),
+    )
+}
+
+// The change bits as a step leaves them.
+pub fn settled_changes(r: Registers, f: FifoControl, changes: u8) -> u8
+    ensures { λ c. ⌜ c ≡ settledChanges r f changes ⌝ }
+{
+    if autoflow(r, f) {
+        return changes / 2 * 2;
+    }
+    changes
+}
+
+// RTS hold as a step leaves it, with `count` characters received.
+pub fn settled_hold(r: Registers, f: FifoControl, count: u32, hold: u8) -> u8
+    ensures { λ h. ⌜ h ≡ settledHold r f count hold ⌝ }
+{
+    if !auto_rts(r, f) {
+        return 0;
+    }
+    if fifo::trigger_level(f) <= count {
+        return 1;
+    }
+    if count == 0 { 0 } else { hold }
+}
+
+// The state as the rules that end every step leave it.
+pub fn settle(s: State) -> State
+    ensures { λ t. ⌜ t ≡ settled s ⌝ }
+{
+    let r = s.registers;
+    let f = s.fifo;
+    let mut l = s.latches;
+    let changes = l.changes;
+    let hold = l.hold;
+    let count = s.rx.count;
+    l.changes = settled_changes(r, f, changes);
+    l.hold = settled_hold(r, f, count, hold);
+    let mut next = s;
+    next.latches = l;
+    next
+}

@@ -1,0 +1,134 @@
+// The device: the structs of its state and of its answers. The definitions of document 01 stand
+// in specs/, a file for each register or unit; this crate is the manual that the others implement.
+//
+// Every field is an unsigned number, so every bit pattern is a state: well formed, or refused.
+pub mod autoflow;
+pub mod fifo;
+pub mod modem;
+
+use queue::ByteQueue;
+use queue::EntryQueue;
+
+// The registers that keep what is written to them.
+#[repr(C)]
+pub struct Registers {
+    pub ier: u8,
+    pub mcr: u8,
+    pub lcr: u8,
+    pub scr: u8,
+}
+
+// The baud generator: the divisor D, and k, the ticks to the next pulse.
+#[repr(C)]
+pub struct Baud {
+    pub divisor: u32,
+    pub k: u32,
+}
+
+// What FCR sets: FIFO on, size bit (1 is 64), DMA bit, trigger code.
+#[repr(C)]
+pub struct FifoControl {
+    pub enabled: u8,
+    pub size: u8,
+    pub dma: u8,
+    pub trigger: u8,
+}
+
+// The input pins: CTS, DSR, RI, DCD asserted in bits 0..3; the level of SIN.
+#[repr(C)]
+pub struct Inputs {
+    pub modem: u8,
+    pub sin: u8,
+}
+
+// The transmitter shift register: L, the pulses left of the frame now sent, with its byte and
+// format; all zero where nothing is sent.
+#[repr(C)]
+pub struct Frame {
+    pub left: u32,
+    pub byte: u8,
+    pub format: u8,
+}
+
+// The receiver: its phase, and in a character its position P, its format, and the data and parity
+// samples taken so far.
+#[repr(C)]
+pub struct Receiver {
+    pub phase: u8,
+    pub format: u8,
+    pub samples: u8,
+    pub parity: u8,
+    pub position: u32,
+}
+
+// The transmit-empty latch, OE, the time-out latch, the change bits of MSR (bits 0..3: CTS, DSR,
+// RI, DCD), RTS hold, and the idle count.
+#[repr(C)]
+pub struct Latches {
+    pub empty: u8,
+    pub overrun: u8,
+    pub timeout: u8,
+    pub changes: u8,
+    pub hold: u8,
+    pub idle: u32,
+}
+
+#[repr(C)]
+pub struct State {
+    pub registers: Registers,
+    pub baud: Baud,
+    pub fifo: FifoControl,
+    pub inputs: Inputs,
+    pub tx: ByteQueue,
+    pub frame: Frame,
+    pub rx: EntryQueue,
+    pub receiver: Receiver,
+    pub latches: Latches,
+}
+
+// The phases of the receiver.
+pub const IDLE: u8 = 0;
+
+pub const WAITING: u8 = 1;
+
+pub const CHARACTER: u8 = 2;
+
+// What a register read gives: the byte, and the state after it.
+pub struct Reading {
+    pub byte: u8,
+    pub state: State,
+}
+
+// What a pulse makes of the receiver: its next state, and the entry of a character that ended.
+pub struct Received {
+    pub receiver: Receiver,
+    pub ended: bool,
+    pub entry: queue::Entry,
+}
+
+// The output pins as levels (SOUT, INTRPT: 1 is high; the others: 1 is asserted).
+#[repr(C)]
+pub struct Outputs {
+    pub sout: u8,
+    pub rts: u8,
+    pub dtr: u8,
+    pub out1: u8,
+    pub out2: u8,
+    pub intrpt: u8,
+}
+
+// What a step answers.
+#[repr(C)]
+pub struct Answer {
+    pub number: u8,
+    pub byte: u8,
+    pub outputs: Outputs,
+    pub state: State,
+}
+
+// What the look at the pins answers.
+#[repr(C)]
+pub struct Looked {
+    pub number: u8,
+    pub outputs: Outputs,
+}

@@ -1,0 +1,35 @@
+-- While a frame is sent, its first level of the last L is the one at the place that L leaves.
+use Rattle.frame.specs.Frame.{lineLevel, frameLevels}
+use Rattle.frame.proofs.Frames.{line-place}
+use Prim.Native.Nat.{ℕ, _-_}
+use mathlib.Core.Path.{sym, ap, _∙_}
+use lib.ListN.{getD}
+use native.Mathlib.Omega.{arith}
+use borrow.Author.Tests.{eq-eqb}
+use borrow.Author.Needs.{needs}
+use Rattle.frame.proofs.line_level.Statement.{statement}
+use Rattle.frame.proofs.line_level.Tie as tie
+
+returns : tie.Need-returns
+unfolding lineLevel
+returns c = (simp (eq-eqb _ _ (c .if1 .taken)), omega arith)
+
+frame-length-requires : tie.Need-frame-length-requires
+frame-length-requires c κs = search needs
+
+sub-frame-level : tie.Need-sub-frame-level
+sub-frame-level c = search needs
+
+frame-level-requires : tie.Need-frame-level-requires
+frame-level-requires c κs = search needs
+
+returns-2 : tie.Need-returns-2
+returns-2 c =
+    let a = c .before .before .before .args in
+    let place = ap (λ (n : ℕ). getD (frameLevels (a .byte) (a .format)) (n - a .left) 1) (c .before .frame-length .ensures .0) in
+    (c .frame-level .ensures .0 ∙ place ∙ sym (line-place (a .left) (a .byte) (a .format) (c .before .before .if1 .left)), c .frame-level .ensures .1)
+
+pub line-level-spec : {M : Type 1} → statement M
+line-level-spec =
+    tie.close
+    (tie.spec returns frame-length-requires sub-frame-level frame-level-requires returns-2)
