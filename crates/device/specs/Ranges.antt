@@ -3,7 +3,7 @@
 -- types of src/lib.rt say, and no range.
 use Prim.Native.Nat.{ℕ, _+_, _-_, _*_, _/_, _^_, min}
 use mathlib.Core.Bool.{Bool, true, cond, not, _&&_, _||_}
-use mathlib.Core.List.{List, [], _∷_}
+use mathlib.Core.List.{List, [], _∷_, _++_}
 use lib.Dec.{leb, ltb, eqb}
 use Rattle.flag.specs.Flag.{on, bit, every, implies}
 use Rattle.frame.specs.Format.{dataBits, parityBits, frameLength}
@@ -86,8 +86,10 @@ receiveRanges f q v =
     ∷ []
 
 -- Group 5: latches, idle count, change bits, hold; m bytes are queued to transmit, n received.
-abbrev pub latchRanges : Registers → FifoControl → ℕ → ℕ → Latches → List Bool
-latchRanges r f m n l =
+
+-- the latches of the queues and the idle count
+abbrev pub queueLatchRanges : FifoControl → ℕ → ℕ → Latches → List Bool
+queueLatchRanges f m n l =
     leb (l .empty) 1
     ∷ implies (on (l .empty)) (eqb m 0)  -- transmit-empty latch only with an empty queue
     ∷ leb (l .overrun) 1  -- OE
@@ -95,13 +97,21 @@ latchRanges r f m n l =
     ∷ implies (on (l .timeout)) (on (f .enabled) && ltb 0 n)  -- time-out latch only with FIFO on and data waiting
     ∷ leb (l .idle) 769  -- idle count 0..769
     ∷ implies (not (on (f .enabled)) || eqb n 0) (eqb (l .idle) 0)  -- 0 if the queue is empty or the FIFO off
-    ∷ leb (l .changes) 15  -- four change bits
+    ∷ []
+
+-- the change bits and RTS hold
+abbrev pub flowLatchRanges : Registers → FifoControl → ℕ → Latches → List Bool
+flowLatchRanges r f n l =
+    leb (l .changes) 15  -- four change bits
     ∷ implies (autoflow r f) (not (bit 0 (l .changes)))  -- the CTS change bit is 0 with autoflow on
     ∷ leb (l .hold) 1
     ∷ implies (not (autoRts r f)) (eqb (l .hold) 0)  -- hold: 0 without auto-RTS
     ∷ implies (autoRts r f && leb (triggerLevel f) n) (eqb (l .hold) 1)  -- 1 at or above the trigger
     ∷ implies (eqb n 0) (eqb (l .hold) 0)  -- 0 when the count is 0
     ∷ []
+
+abbrev pub latchRanges : Registers → FifoControl → ℕ → ℕ → Latches → List Bool
+latchRanges r f m n l = queueLatchRanges f m n l ++ flowLatchRanges r f n l
 
 -- every range of every group holds
 unfoldable pub wellFormed : State → Bool

@@ -5,9 +5,12 @@
 pub mod autoflow;
 pub mod fifo;
 pub mod modem;
+pub mod sampling;
 
 use queue::ByteQueue;
 use queue::EntryQueue;
+ghost use mathlib.Core.Path.{_≡_};
+ghost use Rattle.device.specs.State.{freshOf, resetState};
 
 // The registers that keep what is written to them.
 #[repr(C)]
@@ -131,4 +134,71 @@ pub struct Answer {
 pub struct Looked {
     pub number: u8,
     pub outputs: Outputs,
+}
+
+// The fresh state.
+pub fn fresh() -> State
+    ensures { λ r. ⌜ r ≡ freshOf ⌝ }
+{
+    State {
+        registers: Registers {
+            ier: 0,
+            mcr: 0,
+            lcr: 0,
+            scr: 0,
+        },
+        baud: Baud { divisor: 0, k: 0 },
+        fifo: FifoControl {
+            enabled: 0,
+            size: 0,
+            dma: 0,
+            trigger: 0,
+        },
+        inputs: Inputs { modem: 0, sin: 1 },
+        tx: queue::bytes::clear(),
+        frame: Frame {
+            left: 0,
+            byte: 0,
+            format: 0,
+        },
+        rx: queue::entries::clear(),
+        receiver: Receiver {
+            phase: IDLE,
+            format: 0,
+            samples: 0,
+            parity: 0,
+            position: 0,
+        },
+        latches: Latches {
+            empty: 0,
+            overrun: 0,
+            timeout: 0,
+            changes: 0,
+            hold: 0,
+            idle: 0,
+        },
+    }
+}
+
+// The state after reset: fresh, but SCR, the divisor and the input pins stay, and k is the divisor.
+pub fn reset(s: State) -> State
+    ensures { λ r. ⌜ r ≡ resetState s ⌝ }
+{
+    let registers = Registers {
+        ier: 0,
+        mcr: 0,
+        lcr: 0,
+        scr: s.registers.scr,
+    };
+    let divisor = s.baud.divisor;
+    let baud = Baud {
+        divisor,
+        k: divisor,
+    };
+    let inputs = s.inputs;
+    let mut next = fresh();
+    next.registers = registers;
+    next.baud = baud;
+    next.inputs = inputs;
+    next
 }

@@ -2,7 +2,7 @@
 use Prim.Native.Nat.{ℕ, _≤_, _<_}
 use mathlib.Core.Path.{_≡_, refl, sym, ap, _∙_}
 use mathlib.Core.Bool.{Bool, true, false, cond, not, _&&_, true≢false, false≢true}
-use mathlib.Core.List.{List, [], _∷_}
+use mathlib.Core.List.{List, [], _∷_, _++_}
 use lib.Dec.{leb, ltb, eqb}
 use borrow.Author.Tests.{lt-ltb, le-ltb, le-leb, lt-leb, eq-eqb, ne-eqb}
 use Rattle.flag.specs.Flag.{every, allOf}
@@ -44,3 +44,9 @@ each-of (t ∷ ts) e = (and-left t (every ts) e, each-of ts (and-right t (every 
 pub of-each : (ts : List Bool) → Each ts → every ts ≡ true
 of-each [] e = refl
 of-each (t ∷ ts) e = and-both t (every ts) (e .0) (of-each ts (e .1))
+
+-- the tests of two lists
+pub every-append : (ts us : List Bool) → every (ts ++ us) ≡ (every ts && every us)
+every-append [] us = refl
+every-append (true ∷ ts) us = every-append ts us
+every-append (false ∷ ts) us = refl

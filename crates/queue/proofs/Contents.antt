@@ -1,9 +1,9 @@
--- What a put and a take do to what is queued, over the element and the capacity.
+-- What a put and a take do to what is queued and to the places, over the element and the capacity.
 use Prim.Native.Nat.{ℕ, zero, suc, _+_, _-_, _≤_, _<_}
-use mathlib.Core.Path.{_≡_, refl, sym, ap, _∙_}
+use mathlib.Core.Path.{_≡_, refl, sym, ap}
 use mathlib.Core.Bool.{Bool, true, false, cond}
 use mathlib.Core.List.{List, [], _∷_, _++_}
-use lib.ListN.{length, getD, take, drop, set, length-append, length-drop, length-set}
+use lib.ListN.{length, getD, drop, set, length-append, length-drop, length-set}
 use lib.Seq.{take-suc-set, take-append-le, drop-set-lt, drop-drop}
 use lib.Dec.{ltb, eqb}
 use native.Mathlib.Numerals.{add-one}
@@ -17,7 +17,7 @@ module _ {A : Type 0} where
   -- a claim about the places after a put, from the claim about a store of v and about the places as they were
   pub put-by : (P : List A → Type 0) (c n : ℕ) (xs : List A) (v : A) → ((i : ℕ) → P (set xs i v)) → P xs → P (placesPut c n xs v)
   unfolding placesPut
-  put-by P c n xs v f w = by-test P (ltb n c) _ _ (λ _. f n) (λ _. by-test P (eqb c 1) _ _ (λ _. f 0) (λ _. w))
+  put-by P c n xs v f w = by-test P (ltb n c) _ _ (λ _. search f) (λ _. by-test P (eqb c 1) _ _ (λ _. search f) (λ _. w))
 
   -- a put keeps the number of places
   pub length-put : (c n : ℕ) (xs : List A) (v : A) → length (placesPut c n xs v) ≡ length xs
@@ -35,7 +35,7 @@ module _ {A : Type 0} where
   unfolding placesPut countPut
   put-contents c n xs v h k =
       let m : n < length xs = omega arith in
-      rw (lt-ltb n c h, add-one, take-suc-set xs n v m)
+      rw (lt-ltb n c h, add-one) (take-suc-set xs n v m)
 
   -- the first of what is queued is the oldest, and the rest stays queued after a take
   pub take-oldest : (z : A) (n : ℕ) (xs : List A) → 0 < n → n ≤ length xs → contents n xs ≡ getD xs 0 z ∷ contents (n - 1) (shifted z xs)
@@ -50,7 +50,7 @@ module _ {A : Type 0} where
   pub take-contents : (z : A) (n : ℕ) (xs : List A) → 0 < n → n ≤ length xs → contents (n - 1) (shifted z xs) ≡ drop 1 (contents n xs)
   take-contents z n xs h k = sym (ap (λ (r : List A). drop 1 r) (take-oldest z n xs h k))
 
-  -- a full queue of more than one place keeps what is queued
+  -- a full queue of a capacity other than 1 keeps what is queued
   pub full-contents : (c n : ℕ) (xs : List A) (v : A) → c ≤ n → (c ≡ 1 → ⊥) → contents (countPut c n) (placesPut c n xs v) ≡ contents n xs
   unfolding placesPut countPut
   full-contents c n xs v h k = simp (tests, h, k)
@@ -60,19 +60,22 @@ module _ {A : Type 0} where
   unfolding placesPut countPut
   full-replaced xs v h = take-suc-set xs 0 v h
 
-  -- A test of places.
+  -- A test of the places.
 
+  -- a test that all places pass is kept by a store of what passes it
   pub all-set : (p : A → Bool) (xs : List A) (i : ℕ) (v : A) → allOf p xs ≡ true → p v ≡ true → allOf p (set xs i v) ≡ true
   all-set p [] i v w t = refl
   all-set p (x ∷ xs) zero v w t = and-both (p v) (allOf p xs) t (and-right (p x) (allOf p xs) w)
   all-set p (x ∷ xs) (suc i) v w t =
       and-both (p x) (allOf p (set xs i v)) (and-left (p x) (allOf p xs) w) (all-set p xs i v (and-right (p x) (allOf p xs) w) t)
 
+  -- all places from n on pass a test that all pass
   pub all-drop : (p : A → Bool) (n : ℕ) (xs : List A) → allOf p xs ≡ true → allOf p (drop n xs) ≡ true
   all-drop p zero xs w = w
   all-drop p (suc n) [] w = refl
   all-drop p (suc n) (x ∷ xs) w = all-drop p n xs (and-right (p x) (allOf p xs) w)
 
+  -- all places from n on pass it with ys behind, where all of ys pass it
   pub all-append : (p : A → Bool) (n : ℕ) (xs ys : List A) → allOf p (drop n xs) ≡ true → allOf p ys ≡ true → allOf p (drop n (xs ++ ys)) ≡ true
   all-append p n [] ys w u = all-drop p n ys u
   all-append p zero (x ∷ xs) ys w u =
@@ -96,7 +99,7 @@ module _ {A : Type 0} where
           let m : 0 < n = omega (arith, ltb-false n c e) in
           by-test (λ ys. allOf p (drop n ys) ≡ true) (eqb c 1) _ _ (λ _. rw (drop-set-lt n xs 0 v m) w) (λ _. w)
 
-  -- and by a take, where the filler passes it
+  -- a test that all places beyond the count pass is kept by a take, where the filler passes it
   pub rest-taken : (p : A → Bool) (z : A) (n : ℕ) (xs : List A) → p z ≡ true → allOf p (drop n xs) ≡ true → allOf p (drop (n - 1) (shifted z xs)) ≡ true
   unfolding shifted
   rest-taken p z n xs t w = all-append p (n - 1) (drop 1 xs) (z ∷ []) (go n w) (and-both (p z) true t refl)
@@ -113,39 +116,48 @@ module _ {A : Type 0} where
 
 -- The count against the capacity.
 
+-- a put keeps the count within the capacity
 pub count-put : (c n : ℕ) → n ≤ c → countPut c n ≤ c
 unfolding countPut
 count-put c n h = by-test (λ m. m ≤ c) (ltb n c) _ _ (λ e. omega (arith, ltb-true n c e)) (λ _. h)
 
+-- a take keeps the count within the capacity
 pub count-taken : (c n : ℕ) → n ≤ c → n - 1 ≤ c
 count-taken c n h = omega arith
 
+-- a queue whose count has reached the capacity is full
 pub full-at : (c n : ℕ) → c ≤ n → isFull c n ≡ true
 unfolding isFull
 full-at c n h = le-leb c n h
 
+-- the count of a full queue has reached the capacity
 pub at-full : (c n : ℕ) → isFull c n ≡ true → c ≤ n
 unfolding isFull
 at-full c n e = leb-true c n e
 
 -- The empty queues.
 
+-- 64 places of bytes
 pub no-bytes-long : length (noBytes .bytes) ≡ 64
 unfolding noBytes
 no-bytes-long = refl
 
+-- all zero
 pub no-bytes-rest : byteRest noBytes ≡ true
 unfolding noBytes byteRest
 no-bytes-rest = refl
 
+-- 64 places of entries
 pub no-entries-long : length (noEntries .entries) ≡ 64
 unfolding noEntries
 no-entries-long = refl
 
+-- all zero
 pub no-entries-rest : entryRest noEntries ≡ true
 unfolding noEntries entryRest
 no-entries-rest = refl
 
+-- with flags in range
 pub no-entries-flags : entryFlags noEntries ≡ true
 unfolding noEntries entryFlags
 no-entries-flags = refl

@@ -1,6 +1,7 @@
 -- Each turn fills the next place with what stands one place further; the last one keeps the filler.
 use Prim.Native.Nat.{_-_}
-use mathlib.Core.Path.{refl}
+use mathlib.Core.Path.{ap}
+use lib.ListN.{replicate}
 use native.Mathlib.Omega.{arith}
 use borrow.Author.Needs.{needs}
 use Rattle.queue.specs.Queue.{noEntry}
@@ -15,7 +16,7 @@ abbrev μ-loop : tie.MeasureT-loop
 μ-loop entries next₀ i₀ next i = 64 - i
 
 loop-holds : tie.Need-loop-holds Inv-loop μ-loop
-loop-holds c = rw (c .none .ensures) (record { long = search needs; most = omega arith; so-far = refl })
+loop-holds c = record { long = search needs; most = omega arith; so-far = ap (λ e. replicate 64 e) (c .none .ensures) }
 
 loop-again : tie.Need-loop-again Inv-loop μ-loop
 loop-again c = shift-turns (c .before .before .loop .inv) (omega arith)
