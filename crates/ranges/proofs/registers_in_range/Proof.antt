@@ -1,37 +1,29 @@
-use Prim.Native.Nat.{ℕ, zero, suc, _+_, _-_, _*_, _/_, _%_, _≤_, _<_}
-use mathlib.Core.Path.{_≡_, refl, sym, ap, _∙_}
-use mathlib.Core.Bool.{Bool, true, false, cond, not, _&&_}
-use mathlib.Core.List.{List, [], _∷_, _++_}
-use lib.ListN.{length, getD, take, drop, set, replicate}
-use native.Mathlib.Omega.{arith}
-use borrow.Author.Tests.{lt-ltb, le-ltb, le-leb, lt-leb, eq-eqb, ne-eqb, ltb-true, ltb-false, leb-true, leb-false, eqb-true, not-true, not-false}
+-- LCR and SCR are in range by their types; the other tests are the definition's.
+use mathlib.Core.Bool.{and-true}
+use Prim.Native.Nat.{_≤_}
+use borrow.Author.Tests.{le-leb}
 use borrow.Author.Needs.{needs}
 use Rattle.ranges.proofs.registers_in_range.Statement.{statement}
 use Rattle.ranges.proofs.registers_in_range.Tie as tie
-use Rattle.ranges.proofs.registers_in_range.Reads as reads
-use Rattle.ranges.proofs.registers_in_range.Lts as lts
-use Rattle.flag.proofs.both.Reads as both-reads
-use Rattle.ranges.proofs.k_in_range.Reads as k-in-range-reads
 
--- src/lib.rt:71:44
 k-in-range-requires : tie.Need-k-in-range-requires
 k-in-range-requires c κs = search needs
 
--- src/lib.rt:71:13
 both-requires : tie.Need-both-requires
 both-requires c κs = search needs
 
--- src/lib.rt:69:9
 both-requires-2 : tie.Need-both-requires-2
 both-requires-2 c κs = search needs
 
--- src/lib.rt:67:5
 both-requires-3 : tie.Need-both-requires-3
 both-requires-3 c κs = search needs
 
--- src/lib.rt:64:1
 returns : tie.Need-returns
-returns c = search needs
+returns c =
+    let a = c .before .before .before .before .before .before .before .args in
+    let lcr : a .r .lcr ≤ 255 = search needs in
+    let scr : a .r .scr ≤ 255 = search needs in
+    rw (c .both3 .ensures, c .before .both2 .ensures, c .before .before .both .ensures, c .before .before .before .k-in-range .ensures, le-leb _ _ lcr, le-leb _ _ scr) (simp and-true)
 
 pub registers-in-range-spec : {M : Type 1} → statement M
 registers-in-range-spec =
