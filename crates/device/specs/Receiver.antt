@@ -51,22 +51,27 @@ stopSample h lcr v =
       entry = entryOf v h;
     }
 
--- the character with the sample h that falls at position p: data from bit 0, then parity
-unfoldable pub sampled : ℕ → ℕ → Receiver → Receiver
-sampled h p v =
-    let n = samplesTaken p - 1 in
+-- the character at position p
+abbrev pub atPosition : ℕ → Receiver → Receiver
+atPosition p v =
+    record { phase = v .phase; format = v .format; samples = v .samples; parity = v .parity; position = p }
+
+-- the character with its next sample h: data from bit 0, then parity
+unfoldable pub sampled : ℕ → Receiver → Receiver
+sampled h v =
+    let n = samplesTaken (v .position) in
     cond (ltb n (dataBits (v .format)))
-    (record { phase = 2; format = v .format; samples = v .samples + h * 2 ^ n; parity = 0; position = p })
-    (record { phase = 2; format = v .format; samples = v .samples; parity = h; position = p })
+    (record { phase = v .phase; format = v .format; samples = v .samples + h * 2 ^ n; parity = v .parity; position = v .position })
+    (record { phase = v .phase; format = v .format; samples = v .samples; parity = h; position = v .position })
 
 -- in a character, at its next position p: samples fall at 8, 24, 40 and so on; high at 8 is a false start
 unfoldable pub inCharacter : ℕ → ℕ → ℕ → Receiver → Received
 inCharacter h lcr p v =
     cond (eqb (p % 16) 8)
     (cond (eqb p 8)
-    (cond (eqb h 1) (goesOn idleReceiver) (goesOn (record { phase = 2; format = v .format; samples = v .samples; parity = v .parity; position = p })))
-    (cond (eqb p (stopPosition (v .format))) (stopSample h lcr v) (goesOn (sampled h p v))))
-    (goesOn (record { phase = 2; format = v .format; samples = v .samples; parity = v .parity; position = p }))
+    (cond (eqb h 1) (goesOn idleReceiver) (goesOn (atPosition p v)))
+    (cond (eqb p (stopPosition (v .format))) (stopSample h lcr v) (goesOn (atPosition p (sampled h v)))))
+    (goesOn (atPosition p v))
 
 -- what a pulse that hears the level h makes of the receiver. Idle and low begins a character, P = 0; each later pulse adds
 -- 1 to P; waiting for mark ends on high
