@@ -110,7 +110,10 @@ entered s e =
       idle = s .latches .idle;
     })
 
-unfoldable pub received : State → State
-received s =
-    let r = reception s in
+-- what a pulse made of the receiver, and the entry of a character that ended
+unfoldable pub accepted : State → Received → State
+accepted s r =
     cond (r .ended) (entered (withReceiver s (r .receiver)) (r .entry)) (withReceiver s (r .receiver))
+
+unfoldable pub received : State → State
+received s = accepted s (reception s)

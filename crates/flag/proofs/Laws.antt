@@ -3,6 +3,8 @@ use Prim.Native.Nat.{ℕ, _≤_, _<_}
 use mathlib.Core.Path.{_≡_, refl, sym, ap, _∙_}
 use mathlib.Core.Bool.{Bool, true, false, cond, not, _&&_, true≢false, false≢true}
 use mathlib.Core.List.{List, [], _∷_, _++_}
+use native.Mathlib.Decide.{decLt}
+use native.Mathlib.Omega.{arith}
 use lib.Dec.{leb, ltb, eqb}
 use borrow.Author.Tests.{lt-ltb, le-ltb, le-leb, lt-leb, eq-eqb, ne-eqb}
 use Rattle.flag.specs.Flag.{every, allOf}
@@ -50,3 +52,7 @@ pub every-append : (ts us : List Bool) → every (ts ++ us) ≡ (every ts && eve
 every-append [] us = refl
 every-append (true ∷ ts) us = every-append ts us
 every-append (false ∷ ts) us = refl
+
+-- what is not at most is above
+pub not-leb : (a b : ℕ) → not (leb a b) ≡ ltb b a
+not-leb a b = elim (decLt b a) [ yes h ↦ simp (lt-leb a b h, lt-ltb b a h) | no h ↦ simp (le-leb a b (omega arith), le-ltb b a (omega arith)) ]

@@ -1,5 +1,6 @@
 // The receiver's part of a pulse.
 use device::CHARACTER;
+use device::Frame;
 use device::IDLE;
 use device::Received;
 use device::Receiver;
@@ -10,12 +11,15 @@ use device::modem;
 use device::sampling;
 use queue::Entry;
 ghost use mathlib.Core.Path.{_≡_};
-ghost use mathlib.Core.Bool.{_&&_};
+ghost use mathlib.Core.Bool.{cond, not, _&&_};
 ghost use Prim.Native.Nat.{_<_, _≤_};
 ghost use Rattle.frame.specs.Format.{frameLength};
+ghost use Rattle.queue.specs.Queue.{isFull};
 ghost use Rattle.device.specs.State.{idleReceiver};
-ghost use Rattle.device.specs.Receiver.{goesOn, startAt, waiting as «waiting-receiver», isBreak, entryOf, stopSample, sampled, moved, inCharacter, receive as «receive-of», heard as «heard-of», entered, enters as «enters-of», received};
-ghost use Rattle.line.specs.Needs.{Sampling, Sent};
+ghost use Rattle.device.specs.Fifo.{capacity};
+ghost use Rattle.device.specs.Transmitter.{line};
+ghost use Rattle.device.specs.Receiver.{goesOn, startAt, waiting as «waiting-receiver», isBreak, entryOf, stopSample, sampled, atPosition, inCharacter, receive as «receive-of», reception, entered, accepted};
+ghost use Rattle.line.specs.Needs.{Sampling, Sent, Hearing};
 
 // The receiver in no character: idle, or waiting for mark.
 fn outside(phase: u8) -> Receiver
@@ -101,4 +105,139 @@ fn stop_sample(level: u8, lcr: u8, v: Receiver) -> Received
         ended: true,
         entry,
     }
+}
+
+// The character with its next sample: data from bit 0, then parity.
+fn sample(level: u8, v: Receiver) -> Receiver
+    requires { ⌜ Sampling level v ⌝ }
+    ensures { λ r. ⌜ r ≡ sampled level v ⌝ }
+{
+    let mut next = v;
+    let n = sampling::samples_taken(v.position);
+    let samples = v.samples;
+    if n < frame::data_bits(v.format) {
+        next.samples = samples + (level << n);
+        return next;
+    }
+    next.parity = level;
+    next
+}
+
+// The character at a position.
+fn at_position(position: u32, v: Receiver) -> Receiver
+    ensures { λ r. ⌜ r ≡ atPosition position v ⌝ }
+{
+    let mut next = v;
+    next.position = position;
+    next
+}
+
+// In a character, at its next position: samples fall at 8, 24, 40 and so on.
+fn in_character(level: u8, lcr: u8, position: u32, v: Receiver) -> Received
+    requires { ⌜ Sampling level v ⌝ }
+    ensures { λ r. ⌜ r ≡ inCharacter level lcr position v ⌝ }
+{
+    if position % 16 != 8 {
+        return goes_on(at_position(position, v));
+    }
+    if position == 8 {
+        if level == 1 {
+            return goes_on(outside(IDLE));
+        }
+        return goes_on(at_position(position, v));
+    }
+    if position == sampling::stop_position(v.format) {
+        return stop_sample(level, lcr, v);
+    }
+    goes_on(at_position(position, sample(level, v)))
+}
+
+// What a pulse that hears a level makes of the receiver.
+pub fn receive(level: u8, lcr: u8, v: Receiver) -> Received
+    requires { ⌜ Sampling level v ⌝ }
+    ensures { λ r. ⌜ r ≡ «receive-of» level lcr v ⌝ }
+{
+    if v.phase == CHARACTER {
+        return in_character(level, lcr, v.position + 1, v);
+    }
+    if v.phase == WAITING {
+        if level == 1 {
+            return goes_on(outside(IDLE));
+        }
+        return goes_on(v);
+    }
+    if level == 0 {
+        return goes_on(start_at(0, lcr));
+    }
+    goes_on(v)
+}
+
+// The level that the receiver hears: in loopback the transmitter's line, else SIN.
+pub fn heard(loopback: bool, x: Frame, sin: u8) -> u8
+    requires { ⌜ Sent x ⌝ }
+    requires { ⌜ sin ≤ 1 ⌝ }
+    ensures { λ r. ⌜ (r ≡ cond loopback (line x) sin) × (r ≤ 1) ⌝ }
+{
+    if loopback {
+        return frame::line_level(x.left, x.byte, x.format);
+    }
+    sin
+}
+
+// What this pulse makes of the receiver.
+pub fn hear(s: State) -> Received
+    requires { ⌜ Hearing s ⌝ }
+    ensures { λ r. ⌜ r ≡ reception s ⌝ }
+{
+    let r = s.registers;
+    let x = s.frame;
+    let v = s.receiver;
+    let level = heard(modem::loopback(r), x, s.inputs.sin);
+    receive(level, r.lcr, v)
+}
+
+// Whether a character enters the queue in this pulse, where one ended or not.
+pub fn enters(s: State, ended: bool) -> bool
+    ensures { λ r. ⌜ r ≡ (ended && not (isFull (capacity (s .fifo)) (s .rx .count))) ⌝ }
+{
+    let f = s.fifo;
+    flag::both(ended, s.rx.count < fifo::capacity(f))
+}
+
+// OE after a put.
+fn overrun(full: bool, before: u8) -> u8
+    ensures { λ r. ⌜ r ≡ cond full 1 before ⌝ }
+{
+    if full { 1 } else { before }
+}
+
+// An entry is put into the queue. A full queue sets OE.
+fn enter(s: State, e: Entry) -> State
+    ensures { λ r. ⌜ r ≡ entered s e ⌝ }
+{
+    let f = s.fifo;
+    let q = s.rx;
+    let p = queue::entries::put(q, fifo::capacity(f), e);
+    let mut l = s.latches;
+    let before = l.overrun;
+    l.overrun = overrun(p.full, before);
+    let rx = p.queue;
+    let mut next = s;
+    next.rx = rx;
+    next.latches = l;
+    next
+}
+
+// The state with what a pulse made of the receiver, and the entry of a character that ended.
+pub fn accept(s: State, r: Received) -> State
+    ensures { λ t. ⌜ t ≡ accepted s r ⌝ }
+{
+    let v = r.receiver;
+    let e = r.entry;
+    let mut next = s;
+    next.receiver = v;
+    if r.ended {
+        return enter(next, e);
+    }
+    next
 }

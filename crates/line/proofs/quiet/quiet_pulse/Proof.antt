@@ -1,0 +1,55 @@
+-- The ways of the definition, in its order.
+use Rattle.line.specs.Quiet.{quietOf}
+use Rattle.line.proofs.Quieted.{shifted-sent}
+use mathlib.Core.Path.{sym, _∙_}
+use borrow.Author.Needs.{needs}
+use Rattle.line.proofs.quiet.quiet_pulse.Statement.{statement}
+use Rattle.line.proofs.quiet.quiet_pulse.Tie as tie
+
+shift-out-requires : tie.Need-shift-out-requires
+shift-out-requires c κs = search needs
+
+both-requires : tie.Need-both-requires
+both-requires c κs = search needs
+
+busy-requires : tie.Need-busy-requires
+busy-requires c κs = search needs
+
+returns : tie.Need-returns
+unfolding quietOf
+returns c = rw (c .busy .ensures, ← c .before .before .before .before .shift-out .ensures, sym (c .before .before .both .ensures) ∙ c .before .if1 .taken)
+
+heard-requires : tie.Need-heard-requires
+heard-requires c κs = (rw (c .before .before .before .shift-out .ensures) (shifted-sent _ (c .before .before .before .before .pre .sent)), c .before .before .before .before .pre .sin)
+
+receive-requires : tie.Need-receive-requires
+receive-requires c κs = record { level = c .heard .ensures .1; placed = c .before .before .before .before .before .pre .placed }
+
+busy-requires-2 : tie.Need-busy-requires-2
+busy-requires-2 c κs = search needs
+
+returns-2 : tie.Need-returns-2
+unfolding quietOf
+returns-2 c = rw (c .busy2 .ensures, ← c .before .before .before .before .before .before .before .shift-out .ensures, sym (c .before .before .before .before .before .both .ensures) ∙ c .before .before .before .before .if1 .left, ← c .before .before .before .heard .ensures .0, ← c .before .before .receive .ensures, c .before .if2 .taken)
+
+later-requires : tie.Need-later-requires
+later-requires c κs = search needs
+
+returns-3 : tie.Need-returns-3
+unfolding quietOf
+returns-3 c = rw (c .later .ensures, ← c .before .before .before .before .before .before .before .before .shift-out .ensures, sym (c .before .before .before .before .before .before .both .ensures) ∙ c .before .before .before .before .before .if1 .left, ← c .before .before .before .before .heard .ensures .0, ← c .before .before .before .receive .ensures, c .before .before .if2 .left)
+
+pub quiet-pulse-spec : {M : Type 1} → statement M
+quiet-pulse-spec =
+    tie.close
+    (tie.spec
+    shift-out-requires
+    both-requires
+    busy-requires
+    returns
+    heard-requires
+    receive-requires
+    busy-requires-2
+    returns-2
+    later-requires
+    returns-3)

@@ -1,0 +1,36 @@
+-- What the inner functions of a pulse ask of their callers; every well-formed state has it.
+use Prim.Native.Nat.{ℕ, _≤_, _<_, _^_, min}
+use Rattle.frame.specs.Format.{dataBits, frameLength}
+use Rattle.device.specs.declared.Frame.{Frame}
+use Rattle.device.specs.declared.Receiver.{Receiver}
+use Rattle.device.specs.declared.Latches.{Latches}
+use Rattle.device.specs.declared.State.{State}
+use Rattle.line.specs.declared.Setting.{Setting}
+use Rattle.device.specs.Ranges.{samplesTaken}
+
+-- L is at most the frame's length
+pub record Sent (x : Frame) : Type 0 where
+  pub left : x .left ≤ frameLength (x .format)
+
+-- a position fits, and the samples fill the places taken so far
+pub record Placed (v : Receiver) : Type 0 where
+  pub place : v .position < 168
+  pub samples : v .samples < 2 ^ min (dataBits (v .format)) (samplesTaken (v .position))
+
+-- the receiver at a level, which is 0 or 1
+pub record Sampling (h : ℕ) (v : Receiver) : Type 0 where
+  pub level : h ≤ 1
+  pub placed : Placed v
+
+-- the state as the receiver's part of a pulse finds it
+pub record Hearing (s : State) : Type 0 where
+  pub sent : Sent (s .frame)
+  pub sin : s .inputs .sin ≤ 1
+  pub placed : Placed (s .receiver)
+
+-- a quiet pulse
+pub record Quieting (c : Setting) (x : Frame) (v : Receiver) (l : Latches) : Type 0 where
+  pub sent : Sent x
+  pub sin : c .sin ≤ 1
+  pub placed : Placed v
+  pub idle : l .idle ≤ 769

@@ -1,0 +1,78 @@
+// The idle count's part of a pulse.
+use device::Latches;
+use device::State;
+ghost use mathlib.Core.Path.{_≡_};
+ghost use mathlib.Core.Bool.{cond, not, _||_};
+ghost use Prim.Native.Nat.{_≤_, _+_, _*_, min};
+ghost use lib.Dec.{ltb, eqb};
+ghost use Rattle.flag.specs.Flag.{on};
+ghost use Rattle.frame.specs.Format.{formatOf, frameLength};
+ghost use Rattle.device.specs.Idle.{withIdle, idled};
+ghost use Rattle.line.specs.Quiet.{counted as «counted-of», timeOutAt};
+
+// The idle count stops here.
+const MOST: u32 = 769;
+
+// The idle count that times out: four frames in the format of LCR.
+pub fn limit(lcr: u8) -> u32
+    ensures { λ r. ⌜ r ≡ timeOutAt lcr ⌝ }
+{
+    4 * frame::frame_length(lcr % 64)
+}
+
+// The idle count one pulse later.
+fn one_more(n: u32) -> u32
+    requires { ⌜ n ≤ 769 ⌝ }
+    ensures { λ r. ⌜ r ≡ min (n + 1) 769 ⌝ }
+{
+    if n < MOST { n + 1 } else { n }
+}
+
+// The time-out latch at an idle count: above the limit it is set.
+fn time_out(limit: u32, n: u32, before: u8) -> u8
+    ensures { λ r. ⌜ r ≡ cond (ltb limit n) 1 before ⌝ }
+{
+    if limit < n { 1 } else { before }
+}
+
+// One more pulse without a character.
+pub fn counted(limit: u32, l: Latches) -> Latches
+    requires { ⌜ l .idle ≤ 769 ⌝ }
+    ensures { λ r. ⌜ r ≡ «counted-of» limit l ⌝ }
+{
+    let n = one_more(l.idle);
+    let mut next = l;
+    next.timeout = time_out(limit, n, l.timeout);
+    next.idle = n;
+    next
+}
+
+// Whether the idle count goes on: the FIFO is on and data is waiting.
+pub fn counts(enabled: u8, received: u32) -> bool
+    ensures { λ r. ⌜ r ≡ not (not (on enabled) || eqb received 0) ⌝ }
+{
+    if enabled != 1 {
+        return false;
+    }
+    received != 0
+}
+
+// The idle count's part of a pulse, in which a character entered the queue or not.
+pub fn idle(entered: bool, s: State) -> State
+    requires { ⌜ s .latches .idle ≤ 769 ⌝ }
+    ensures { λ r. ⌜ r ≡ idled entered s ⌝ }
+{
+    if !counts(s.fifo.enabled, s.rx.count) {
+        return s;
+    }
+    let mut next = s;
+    let mut l = s.latches;
+    if entered {
+        l.idle = 0;
+        next.latches = l;
+        return next;
+    }
+    let later = counted(limit(s.registers.lcr), l);
+    next.latches = later;
+    next
+}

@@ -1,0 +1,81 @@
+// The transmitter's part of a pulse.
+use device::Frame;
+use device::State;
+use device::autoflow;
+ghost use mathlib.Core.Path.{_≡_};
+ghost use Prim.Native.Nat.{_<_};
+ghost use Rattle.device.specs.State.{noFrame, withFrame};
+ghost use Rattle.device.specs.Transmitter.{loaded, transmitted};
+
+// No frame is sent.
+pub fn no_frame() -> Frame
+    ensures { λ r. ⌜ r ≡ noFrame ⌝ }
+{
+    Frame {
+        left: 0,
+        byte: 0,
+        format: 0,
+    }
+}
+
+// The oldest byte goes into the shift register, in the format of LCR. Emptying the queue sets the
+// transmit-empty latch.
+fn load(s: State) -> State
+    requires { ⌜ 0 < s .tx .count ⌝ }
+    ensures { λ r. ⌜ r ≡ loaded s ⌝ }
+{
+    let q = s.tx;
+    let format = s.registers.lcr % 64;
+    let byte = q.bytes[0];
+    let frame = Frame {
+        left: frame::frame_length(format),
+        byte,
+        format,
+    };
+    let tx = queue::bytes::take(q);
+    let mut next = s;
+    next.tx = tx;
+    next.frame = frame;
+    if q.count == 1 {
+        let mut l = s.latches;
+        l.empty = 1;
+        next.latches = l;
+        return next;
+    }
+    next
+}
+
+// Nothing is sent.
+fn stop(s: State) -> State
+    ensures { λ r. ⌜ r ≡ withFrame s noFrame ⌝ }
+{
+    let none = no_frame();
+    let mut next = s;
+    next.frame = none;
+    next
+}
+
+// The transmitter's part of a pulse: L falls by 1, and at 0 the next byte is loaded, where one is
+// queued and the transmitter is not held.
+pub fn transmit(s: State) -> State
+    ensures { λ r. ⌜ r ≡ transmitted s ⌝ }
+{
+    let mut x = s.frame;
+    let left = x.left;
+    if 1 < left {
+        let mut next = s;
+        x.left = left - 1;
+        next.frame = x;
+        return next;
+    }
+    if s.tx.count == 0 {
+        return stop(s);
+    }
+    let r = s.registers;
+    let f = s.fifo;
+    let i = s.inputs;
+    if autoflow::held(r, f, i) {
+        return stop(s);
+    }
+    load(s)
+}
