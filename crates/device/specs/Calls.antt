@@ -1,7 +1,7 @@
 -- The calls and the numbers that they answer (document 01, "Numbers answered" and "Registers"): 0 done; 1 state not well
 -- formed; 2 register address above 7; 3 SIN above 1 or modem pins above 15. Lowest number first. A refusal hands the
 -- state back as it was, every other result 0.
-use Prim.Native.Nat.{ℕ}
+use Prim.Native.Nat.{ℕ, zero, suc}
 use mathlib.Core.Bool.{Bool, cond}
 use lib.Dec.{leb, eqb}
 use Rattle.device.specs.declared.Inputs.{Inputs}
@@ -99,6 +99,11 @@ modemOf s v =
 
 unfoldable pub tickOf : State → Answer
 tickOf s = cond (wellFormed s) (done (ticked s) 0) (refused 1 s)
+
+-- t ticks, the first on the state given, each later one on what the last returned
+abbrev pub ticksOf : ℕ → State → State
+ticksOf zero s = s
+ticksOf (suc t) s = ticksOf t (tickOf s .state)
 
 -- the pins as they are; those of a malformed state are all 0 with number 1
 unfoldable pub pinsOf : State → Looked

@@ -1,2 +1,4 @@
 pub mod Samples
+pub mod Needed
 pub mod Quieted
+pub mod Going

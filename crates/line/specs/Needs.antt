@@ -34,3 +34,8 @@ pub record Quieting (c : Setting) (x : Frame) (v : Receiver) (l : Latches) : Typ
   pub sin : c .sin ≤ 1
   pub placed : Placed v
   pub idle : l .idle ≤ 769
+
+-- a pulse
+pub record Pulsing (s : State) : Type 0 where
+  pub hearing : Hearing s
+  pub idle : s .latches .idle ≤ 769

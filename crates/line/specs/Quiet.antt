@@ -42,6 +42,21 @@ settingOf s =
       limit = timeOutAt (s .registers .lcr);
     }
 
+-- the state with these numbers in place of its own
+abbrev pub assembled : State → ℕ → Frame → Receiver → Latches → State
+assembled s k x v l =
+    record {
+      registers = s .registers;
+      baud = record { divisor = s .baud .divisor; k = k };
+      fifo = s .fifo;
+      inputs = s .inputs;
+      tx = s .tx;
+      frame = x;
+      rx = s .rx;
+      receiver = v;
+      latches = l;
+    }
+
 -- the frame after a pulse that loads nothing
 unfoldable pub shiftedOut : Frame → Frame
 shiftedOut x = cond (eqb (x .left - 1) 0) noFrame (record { left = x .left - 1; byte = x .byte; format = x .format })

@@ -2,6 +2,7 @@
 pub mod idle;
 pub mod quiet;
 pub mod receiver;
+pub mod tick;
 pub mod transmitter;
 
 use device::Frame;

@@ -1,6 +1,6 @@
 -- The ways of the definition, in its order.
 use Rattle.line.specs.Quiet.{quietOf}
-use Rattle.line.proofs.Quieted.{shifted-sent}
+use Rattle.line.proofs.Needed.{shifted-sent}
 use mathlib.Core.Path.{sym, _∙_}
 use borrow.Author.Needs.{needs}
 use Rattle.line.proofs.quiet.quiet_pulse.Statement.{statement}

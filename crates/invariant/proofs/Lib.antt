@@ -1,0 +1,10 @@
+pub mod Tests
+pub mod Good
+pub mod Settled
+pub mod Parts
+pub mod Registers
+pub mod Sampling
+pub mod Reception
+pub mod Line
+pub mod Constant
+pub mod Steps
