@@ -105,6 +105,13 @@ abbrev pub ticksOf : ℕ → State → State
 ticksOf zero s = s
 ticksOf (suc t) s = ticksOf t (tickOf s .state)
 
+-- the answer of n ticks at once: that of the last one
+unfoldable pub ticksAnswer : State → ℕ → Answer
+ticksAnswer s n =
+    cond (wellFormed s)
+    (record { number = 0; byte = 0; outputs = outputs (ticksOf n s); state = ticksOf n s })
+    (refused 1 s)
+
 -- the pins as they are; those of a malformed state are all 0 with number 1
 unfoldable pub pinsOf : State → Looked
 pinsOf s =

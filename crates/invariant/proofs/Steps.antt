@@ -1,5 +1,5 @@
 -- The invariant: every call on a well-formed state leaves a well-formed state.
-use Prim.Native.Nat.{ℕ, _≤_}
+use Prim.Native.Nat.{ℕ, zero, suc, _≤_}
 use mathlib.Core.Path.{_≡_, refl}
 use mathlib.Core.Bool.{Bool, true, cond}
 use lib.Dec.{leb}
@@ -16,7 +16,7 @@ use Rattle.device.specs.Fifo.{capacity, triggerLevel}
 use Rattle.device.specs.Autoflow.{autoflow, autoRts, settled}
 use Rattle.device.specs.Ranges.{wellFormed}
 use Rattle.device.specs.Tick.{ticked}
-use Rattle.device.specs.Calls.{done, resetOf, readOf, writeOf, sinOf, modemOf, tickOf}
+use Rattle.device.specs.Calls.{done, resetOf, readOf, writeOf, sinOf, modemOf, tickOf, ticksOf}
 use Rattle.invariant.proofs.Good.{Good, good-of, Places}
 use Rattle.invariant.proofs.Settled.{Sound, sound-of, Kept, settled-kept}
 use Rattle.invariant.proofs.Parts.{sound-inputs, transmit-none, receive-none}
@@ -101,3 +101,8 @@ module _ (s : State) (places : Places s) (well : wellFormed s ≡ true) where
   pub tick-kept : Kept (tickOf s .state)
   unfolding tickOf done
   tick-kept = kept-if (wellFormed s) _ _ (λ _. settled-kept _ (ticked-sound s sound)) same
+
+-- and so after any number of ticks
+pub ticks-kept : (t : ℕ) (s : State) → Kept s → Kept (ticksOf t s)
+ticks-kept zero s w = w
+ticks-kept (suc t) s w = ticks-kept t (tickOf s .state) (tick-kept s (w .places) (w .well))

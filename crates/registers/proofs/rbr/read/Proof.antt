@@ -1,0 +1,23 @@
+-- Empty, the state stays; else the oldest entry is taken.
+use Rattle.device.specs.Rbr.{rbrRead}
+use borrow.Author.Tests.{eq-eqb, ne-eqb}
+use borrow.Author.Needs.{needs}
+use Rattle.registers.proofs.rbr.read.Statement.{statement}
+use Rattle.registers.proofs.rbr.read.Tie as tie
+
+returns : tie.Need-returns
+unfolding rbrRead
+returns c = simp (eq-eqb _ _ (c .if1 .taken))
+
+returns-2 : tie.Need-returns-2
+unfolding rbrRead
+returns-2 c =
+    simp (
+      ne-eqb _ _ (c .before .before .before .if1 .left),
+      c .restart-idle .ensures,
+      c .before .take .ensures,
+      c .before .before .oldest .ensures,
+    )
+
+pub read-spec : {M : Type 1} → statement M
+read-spec = tie.close (tie.spec returns (λ c κs. search needs) (λ c κs. search needs) (λ c κs. search needs) returns-2)

@@ -1,0 +1,47 @@
+// The divisor latches.
+use device::Baud;
+use device::State;
+ghost use mathlib.Core.Path.{_≡_};
+ghost use Prim.Native.Nat.{_≤_};
+ghost use Rattle.device.specs.Divisor.{withDivisor, divisorLow, divisorHigh, divisorLowWrite, divisorHighWrite};
+
+// The low byte.
+pub fn low(s: State) -> u8
+    ensures { λ r. ⌜ r ≡ divisorLow s ⌝ }
+{
+    (s.baud.divisor % 256) as u8
+}
+
+// The high byte.
+pub fn high(s: State) -> u8
+    requires { ⌜ s .baud .divisor ≤ 65535 ⌝ }
+    ensures { λ r. ⌜ r ≡ divisorHigh s ⌝ }
+{
+    (s.baud.divisor / 256) as u8
+}
+
+// The state with a new divisor, and k the same.
+fn with_divisor(s: State, d: u32) -> State
+    ensures { λ r. ⌜ r ≡ withDivisor s d ⌝ }
+{
+    let baud = Baud { divisor: d, k: d };
+    let mut next = s;
+    next.baud = baud;
+    next
+}
+
+// The low byte is replaced.
+pub fn write_low(s: State, b: u8) -> State
+    ensures { λ r. ⌜ r ≡ divisorLowWrite s b ⌝ }
+{
+    let d = s.baud.divisor;
+    with_divisor(s, 256 * (d / 256) + b as u32)
+}
+
+// The high byte is replaced.
+pub fn write_high(s: State, b: u8) -> State
+    ensures { λ r. ⌜ r ≡ divisorHighWrite s b ⌝ }
+{
+    let d = s.baud.divisor;
+    with_divisor(s, 256 * (b as u32) + d % 256)
+}

@@ -1,0 +1,112 @@
+// FCR, FIFO control register.
+use crate::lcr;
+use crate::rbr;
+use crate::thr;
+use device::FifoControl;
+use device::Registers;
+use device::State;
+ghost use mathlib.Core.Path.{_≡_};
+ghost use mathlib.Core.Bool.{cond};
+ghost use Rattle.flag.specs.Flag.{bit, bitOf};
+ghost use Rattle.device.specs.Fcr.{fifoAfter, switched as «switched-of», clearReceive, clearTransmit, fcrWrite};
+
+pub const FCR_ENABLE: u8 = 0x01;
+
+pub const FCR_CLEAR_RX: u8 = 0x02;
+
+pub const FCR_CLEAR_TX: u8 = 0x04;
+
+pub const FCR_DMA: u8 = 0x08;
+
+pub const FCR_SIZE: u8 = 0x20;
+
+// The lower of the two trigger bits.
+pub const FCR_TRIGGER: u8 = 0x40;
+
+// The size bit after a write, which sets it only with LCR7.
+fn size_after(lcr: u8, size: u8, b: u8) -> u8
+    ensures { λ r. ⌜ r ≡ cond (bit 7 lcr) (bitOf (bit 5 b)) size ⌝ }
+{
+    if !flag::has(lcr, lcr::LCR_DIVISOR) {
+        return size;
+    }
+    flag::bit(flag::has(b, FCR_SIZE))
+}
+
+// The settings after a write.
+fn fifo_after(r: Registers, f: FifoControl, b: u8) -> FifoControl
+    ensures { λ g. ⌜ g ≡ fifoAfter r f b ⌝ }
+{
+    let mut next = f;
+    if !flag::has(b, FCR_ENABLE) {
+        next.enabled = 0;
+        return next;
+    }
+    next.enabled = 1;
+    next.size = size_after(r.lcr, f.size, b);
+    next.dma = flag::bit(flag::has(b, FCR_DMA));
+    next.trigger = b / FCR_TRIGGER;
+    next
+}
+
+// Whether FIFO on/off or the size changes, which clears both queues.
+fn switched(f: FifoControl, g: FifoControl) -> bool
+    ensures { λ r. ⌜ r ≡ «switched-of» f g ⌝ }
+{
+    flag::either(
+        flag::differ(f.enabled == 1, g.enabled == 1),
+        flag::differ(f.size == 1, g.size == 1),
+    )
+}
+
+// The receive queue cleared, with its time-out latch and idle count.
+fn clear_receive(s: State) -> State
+    ensures { λ r. ⌜ r ≡ clearReceive s ⌝ }
+{
+    let latches = rbr::restart_idle(s.latches);
+    let mut next = s;
+    next.rx = queue::entries::clear();
+    next.latches = latches;
+    next
+}
+
+// The transmit queue cleared, which sets its latch where bytes were queued.
+fn clear_transmit(s: State) -> State
+    ensures { λ r. ⌜ r ≡ clearTransmit s ⌝ }
+{
+    let mut next = s;
+    next.tx = queue::bytes::clear();
+    if s.tx.count == 0 {
+        return next;
+    }
+    next.latches = thr::with_empty(s.latches, 1);
+    next
+}
+
+// The receive queue cleared where a test says so.
+fn receive_after(s: State, clear: bool) -> State
+    ensures { λ r. ⌜ r ≡ cond clear (clearReceive s) s ⌝ }
+{
+    if clear { clear_receive(s) } else { s }
+}
+
+// The transmit queue cleared where a test says so.
+fn transmit_after(s: State, clear: bool) -> State
+    ensures { λ r. ⌜ r ≡ cond clear (clearTransmit s) s ⌝ }
+{
+    if clear { clear_transmit(s) } else { s }
+}
+
+// The settings, then what is cleared.
+pub fn write(s: State, b: u8) -> State
+    ensures { λ r. ⌜ r ≡ fcrWrite s b ⌝ }
+{
+    let f = fifo_after(s.registers, s.fifo, b);
+    let both = switched(s.fifo, f);
+    let on = flag::has(b, FCR_ENABLE);
+    let receive = flag::either(both, flag::both(on, flag::has(b, FCR_CLEAR_RX)));
+    let transmit = flag::either(both, flag::both(on, flag::has(b, FCR_CLEAR_TX)));
+    let mut next = s;
+    next.fifo = f;
+    transmit_after(receive_after(next, receive), transmit)
+}

@@ -1,0 +1,152 @@
+// IIR, interrupt identification register.
+use crate::ier;
+use crate::rbr;
+use crate::thr;
+use device::FifoControl;
+use device::Reading;
+use device::State;
+ghost use mathlib.Core.Path.{_≡_};
+ghost use mathlib.Core.Bool.{cond};
+ghost use Prim.Native.Nat.{_≤_};
+ghost use lib.Dec.{leb, ltb};
+ghost use Rattle.flag.specs.Flag.{on};
+ghost use Rattle.device.specs.Fifo.{triggerLevel};
+ghost use Rattle.device.specs.Iir.{lineStatus, dataAvailable, timeOut, transmitEmpty, modemStatus, interruptCode, fifoCode, iirRead};
+
+// The codes.
+pub const IIR_LINE: u8 = 0x06;
+
+pub const IIR_RECEIVED: u8 = 0x04;
+
+pub const IIR_TIMEOUT: u8 = 0x0c;
+
+pub const IIR_TRANSMIT: u8 = 0x02;
+
+pub const IIR_MODEM: u8 = 0x00;
+
+pub const IIR_NONE: u8 = 0x01;
+
+// What it shows of the FIFO.
+pub const IIR_FIFO: u8 = 0xc0;
+
+pub const IIR_FIFO_64: u8 = 0xe0;
+
+// Receiver line status: an overrun, or an error of the oldest entry.
+fn line_status(s: State) -> bool
+    ensures { λ r. ⌜ r ≡ lineStatus s ⌝ }
+{
+    let e = rbr::oldest(s.rx);
+    flag::both(
+        flag::has(s.registers.ier, ier::IER_LINE),
+        flag::either(s.latches.overrun == 1, queue::entries::has_error(e)),
+    )
+}
+
+// Whether so many received characters are enough: the trigger level, or one in character mode.
+fn enough(f: FifoControl, count: u32) -> bool
+    ensures { λ r. ⌜ r ≡ cond (on (f .enabled)) (leb (triggerLevel f) count) (ltb 0 count) ⌝ }
+{
+    if f.enabled != 1 {
+        return 0 < count;
+    }
+    device::fifo::trigger_level(f) <= count
+}
+
+// Received data available.
+fn data_available(s: State) -> bool
+    ensures { λ r. ⌜ r ≡ dataAvailable s ⌝ }
+{
+    flag::both(
+        flag::has(s.registers.ier, ier::IER_RECEIVED),
+        enough(s.fifo, s.rx.count),
+    )
+}
+
+// Character time-out.
+fn time_out(s: State) -> bool
+    ensures { λ r. ⌜ r ≡ timeOut s ⌝ }
+{
+    flag::both(
+        flag::has(s.registers.ier, ier::IER_RECEIVED),
+        s.latches.timeout == 1,
+    )
+}
+
+// Transmitter holding register empty.
+fn transmit_empty(s: State) -> bool
+    ensures { λ r. ⌜ r ≡ transmitEmpty s ⌝ }
+{
+    flag::both(
+        flag::has(s.registers.ier, ier::IER_TRANSMIT),
+        s.latches.empty == 1,
+    )
+}
+
+// Modem status: a change bit.
+fn modem_status(s: State) -> bool
+    ensures { λ r. ⌜ r ≡ modemStatus s ⌝ }
+{
+    flag::both(
+        flag::has(s.registers.ier, ier::IER_MODEM),
+        0 < s.latches.changes,
+    )
+}
+
+// The code of the first cause that applies.
+fn first_of(line: bool, available: bool, late: bool, empty: bool, moved: bool) -> u8
+    ensures { λ r. ⌜ (r ≡ cond line 0x06 (cond available 0x04 (cond late 0x0c (cond empty 0x02 (cond moved 0x00 0x01))))) × (r ≤ 12) ⌝ }
+{
+    if line {
+        return IIR_LINE;
+    }
+    if available {
+        return IIR_RECEIVED;
+    }
+    if late {
+        return IIR_TIMEOUT;
+    }
+    if empty {
+        return IIR_TRANSMIT;
+    }
+    if moved {
+        return IIR_MODEM;
+    }
+    IIR_NONE
+}
+
+// The identification code.
+pub fn interrupt_code(s: State) -> u8
+    ensures { λ r. ⌜ (r ≡ interruptCode s) × (r ≤ 12) ⌝ }
+{
+    first_of(
+        line_status(s),
+        data_available(s),
+        time_out(s),
+        transmit_empty(s),
+        modem_status(s),
+    )
+}
+
+// The FIFO's bits.
+fn fifo_code(f: FifoControl) -> u8
+    ensures { λ r. ⌜ (r ≡ fifoCode f) × (r ≤ 0xe0) ⌝ }
+{
+    if f.enabled != 1 {
+        return 0;
+    }
+    if f.size == 1 { IIR_FIFO_64 } else { IIR_FIFO }
+}
+
+// The code and the FIFO's bits. Answering 02 clears the transmit-empty latch.
+pub fn read(s: State) -> Reading
+    ensures { λ r. ⌜ r ≡ iirRead s ⌝ }
+{
+    let code = interrupt_code(s);
+    let byte = code + fifo_code(s.fifo);
+    if code != IIR_TRANSMIT {
+        return Reading { byte, state: s };
+    }
+    let mut next = s;
+    next.latches = thr::with_empty(s.latches, 0);
+    Reading { byte, state: next }
+}

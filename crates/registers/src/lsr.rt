@@ -1,0 +1,55 @@
+// LSR, line status register.
+use crate::rbr;
+use device::Reading;
+use device::State;
+use queue::Entry;
+use queue::EntryQueue;
+ghost use mathlib.Core.Path.{_≡_};
+ghost use Rattle.device.specs.Lsr.{transmitterEmpty, lsr as «lsr-of», clearErrors, lsrRead};
+
+// Whether transmit queue and shift register are both empty.
+pub fn transmitter_empty(s: State) -> bool
+    ensures { λ r. ⌜ r ≡ transmitterEmpty s ⌝ }
+{
+    flag::both(s.tx.count == 0, s.frame.left == 0)
+}
+
+// The register, bits 0..3 and 4..7.
+pub fn value(s: State) -> u8
+    ensures { λ r. ⌜ r ≡ «lsr-of» s ⌝ }
+{
+    let q = s.rx;
+    let e = rbr::oldest(q);
+    let error = flag::both(s.fifo.enabled == 1, queue::entries::any_error(q));
+    let low = flag::nibble(0 < q.count, s.latches.overrun == 1, e.pe == 1, e.fe == 1);
+    let high = flag::nibble(e.bi == 1, s.tx.count == 0, transmitter_empty(s), error);
+    low + 16 * high
+}
+
+// The oldest entry without its errors.
+fn clear_errors(q: EntryQueue) -> EntryQueue
+    ensures { λ r. ⌜ r ≡ clearErrors q ⌝ }
+{
+    let e = rbr::oldest(q);
+    let clean = Entry {
+        byte: e.byte,
+        pe: 0,
+        fe: 0,
+        bi: 0,
+    };
+    let mut next = q;
+    next.entries[0] = clean;
+    next
+}
+
+// The value; then OE and the oldest entry's errors are cleared.
+pub fn read(s: State) -> Reading
+    ensures { λ r. ⌜ r ≡ lsrRead s ⌝ }
+{
+    let byte = value(s);
+    let rx = clear_errors(s.rx);
+    let mut next = s;
+    next.rx = rx;
+    next.latches.overrun = 0;
+    Reading { byte, state: next }
+}

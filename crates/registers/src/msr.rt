@@ -1,0 +1,32 @@
+// MSR, modem status register.
+use device::Reading;
+use device::State;
+use device::modem;
+ghost use mathlib.Core.Path.{_≡_};
+ghost use Prim.Native.Nat.{_≤_};
+ghost use Rattle.device.specs.Msr.{withLevels, msrRead};
+
+// The state t that follows s, with the changes of the effective levels between the two.
+pub fn with_levels(s: State, t: State) -> State
+    ensures { λ r. ⌜ r ≡ withLevels s t ⌝ }
+{
+    let was = modem::effective_levels(s.registers, s.inputs);
+    let is = modem::effective_levels(t.registers, t.inputs);
+    let changes = modem::changes_after(t.latches.changes, was, is);
+    let mut next = t;
+    next.latches.changes = changes;
+    next
+}
+
+// The effective levels above their change bits, which are then cleared.
+pub fn read(s: State) -> Reading
+    requires { ⌜ s .latches .changes ≤ 15 ⌝ }
+    requires { ⌜ s .inputs .modem ≤ 15 ⌝ }
+    ensures { λ r. ⌜ r ≡ msrRead s ⌝ }
+{
+    let levels = modem::effective_levels(s.registers, s.inputs);
+    let byte = s.latches.changes + 16 * levels;
+    let mut next = s;
+    next.latches.changes = 0;
+    Reading { byte, state: next }
+}

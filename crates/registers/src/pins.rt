@@ -1,0 +1,76 @@
+// The output pins.
+use crate::iir;
+use crate::lcr;
+use device::Frame;
+use device::Outputs;
+use device::State;
+use device::modem;
+ghost use mathlib.Core.Path.{_≡_};
+ghost use mathlib.Core.Bool.{cond};
+ghost use Prim.Native.Nat.{_≤_, _<_, _/_, _%_};
+ghost use lib.Dec.{eqb};
+ghost use Rattle.flag.specs.Flag.{bit, bitOf};
+ghost use Rattle.frame.specs.Format.{frameLength};
+ghost use Rattle.device.specs.Transmitter.{line};
+ghost use Rattle.device.specs.Pins.{intrpt as «intrpt-of», outputs as «outputs-of»};
+
+// SOUT: outside loopback LCR6 makes it low; else it is high in loopback, the transmitter's line
+// outside.
+fn sout(loopback: bool, lcr: u8, x: Frame) -> u8
+    requires { ⌜ x .left ≤ frameLength (x .format) ⌝ }
+    ensures { λ r. ⌜ r ≡ cond loopback 1 (cond (bit 6 lcr) 0 (line x)) ⌝ }
+{
+    if flag::both(!loopback, flag::has(lcr, lcr::LCR_BREAK)) {
+        return 0;
+    }
+    if loopback {
+        return 1;
+    }
+    frame::line_level(x.left, x.byte, x.format)
+}
+
+// INTRPT is high exactly when the code is not 01.
+fn intrpt(s: State) -> u8
+    ensures { λ r. ⌜ r ≡ «intrpt-of» s ⌝ }
+{
+    flag::bit(iir::interrupt_code(s) != iir::IIR_NONE)
+}
+
+// The output that a bit of MCR asserts.
+fn asserted(mcr: u8, mask: u8) -> u8
+    requires { ⌜ 0 < mask ⌝ }
+    ensures { λ r. ⌜ r ≡ bitOf (eqb (mcr / mask % 2) 1) ⌝ }
+{
+    flag::bit(flag::has(mcr, mask))
+}
+
+// The levels of the output pins; in loopback no modem output is asserted.
+pub fn outputs(s: State) -> Outputs
+    requires { ⌜ s .frame .left ≤ frameLength (s .frame .format) ⌝ }
+    ensures { λ r. ⌜ r ≡ «outputs-of» s ⌝ }
+{
+    let r = s.registers;
+    let loopback = modem::loopback(r);
+    let sout = sout(loopback, r.lcr, s.frame);
+    let intrpt = intrpt(s);
+    if loopback {
+        return Outputs {
+            sout,
+            rts: 0,
+            dtr: 0,
+            out1: 0,
+            out2: 0,
+            intrpt,
+        };
+    }
+    let mcr = r.mcr;
+    let rts = flag::both(flag::has(mcr, modem::MCR_RTS), s.latches.hold != 1);
+    Outputs {
+        sout,
+        rts: flag::bit(rts),
+        dtr: asserted(mcr, modem::MCR_DTR),
+        out1: asserted(mcr, modem::MCR_OUT1),
+        out2: asserted(mcr, modem::MCR_OUT2),
+        intrpt,
+    }
+}

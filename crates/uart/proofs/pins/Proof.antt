@@ -1,0 +1,30 @@
+-- The two rows of the table: 1, or the pins.
+use Rattle.device.specs.Calls.{pinsOf}
+use Rattle.invariant.proofs.Good.{good-of}
+use mathlib.Core.Path.{sym, _∙_}
+use borrow.Author.Tests.{not-true, not-false}
+use borrow.Author.Needs.{needs}
+use Rattle.uart.proofs.pins.Statement.{statement}
+use Rattle.uart.proofs.pins.Tie as tie
+
+well-formed-requires : tie.Need-well-formed-requires
+well-formed-requires c κs = search needs
+
+no-outputs-requires : tie.Need-no-outputs-requires
+no-outputs-requires c κs = search needs
+
+returns : tie.Need-returns
+unfolding pinsOf
+returns c = rw (c .no-outputs .ensures) (simp (sym (c .before .before .well-formed .ensures) ∙ not-true _ (c .before .if1 .taken)))
+
+outputs-requires : tie.Need-outputs-requires
+outputs-requires c κs = good-of (c .before .before .args .s) (sym (c .before .well-formed .ensures) ∙ not-false _ (c .if1 .left)) .transmit .frame .left-most
+
+returns-2 : tie.Need-returns-2
+unfolding pinsOf
+returns-2 c = rw (c .outputs .ensures) (simp (sym (c .before .before .well-formed .ensures) ∙ not-false _ (c .before .if1 .left)))
+
+pub pins-spec : {M : Type 1} → statement M
+pins-spec =
+    tie.close
+    (tie.spec well-formed-requires no-outputs-requires returns outputs-requires returns-2)

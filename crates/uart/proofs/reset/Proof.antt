@@ -1,0 +1,35 @@
+-- The two rows of the table: 1, or done.
+use Rattle.device.specs.Calls.{done, resetOf}
+use Rattle.device.specs.State.{resetState}
+use mathlib.Core.Path.{sym, _∙_}
+use native.Mathlib.Omega.{arith}
+use borrow.Author.Tests.{not-true, not-false}
+use borrow.Author.Needs.{needs}
+use Rattle.uart.proofs.reset.Statement.{statement}
+use Rattle.uart.proofs.reset.Tie as tie
+
+well-formed-requires : tie.Need-well-formed-requires
+well-formed-requires c κs = search needs
+
+refused-requires : tie.Need-refused-requires
+refused-requires c κs = search needs
+
+returns : tie.Need-returns
+unfolding resetOf
+returns c = rw (c .refused .ensures) (simp (sym (c .before .before .well-formed .ensures) ∙ not-true _ (c .before .if1 .taken)))
+
+reset-requires : tie.Need-reset-requires
+reset-requires c κs = search needs
+
+done-requires : tie.Need-done-requires
+unfolding resetState
+done-requires c κs = rw (c .reset .ensures) (omega arith)
+
+returns-2 : tie.Need-returns-2
+unfolding resetOf
+returns-2 c = rw (c .done .ensures, c .before .reset .ensures) (simp (sym (c .before .before .before .well-formed .ensures) ∙ not-false _ (c .before .before .if1 .left)))
+
+pub reset-spec : {M : Type 1} → statement M
+reset-spec =
+    tie.close
+    (tie.spec well-formed-requires refused-requires returns reset-requires done-requires returns-2)

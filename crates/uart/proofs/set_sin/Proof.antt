@@ -1,0 +1,50 @@
+-- The rows of the table in their order: 1, 3, or done.
+use Rattle.device.specs.Calls.{done, sinOf}
+use Rattle.invariant.proofs.Good.{good-of}
+use mathlib.Core.Path.{sym, _∙_}
+use borrow.Author.Tests.{le-leb, lt-leb, not-true, not-false}
+use borrow.Author.Needs.{needs}
+use Rattle.uart.proofs.set_sin.Statement.{statement}
+use Rattle.uart.proofs.set_sin.Tie as tie
+
+well-formed-requires : tie.Need-well-formed-requires
+well-formed-requires c κs = search needs
+
+refused-requires : tie.Need-refused-requires
+refused-requires c κs = search needs
+
+returns : tie.Need-returns
+unfolding sinOf
+returns c = rw (c .refused .ensures) (simp (sym (c .before .before .well-formed .ensures) ∙ not-true _ (c .before .if1 .taken)))
+
+refused-requires-2 : tie.Need-refused-requires-2
+refused-requires-2 c κs = search needs
+
+returns-2 : tie.Need-returns-2
+unfolding sinOf
+returns-2 c = rw (c .refused2 .ensures) (simp (sym (c .before .before .before .well-formed .ensures) ∙ not-false _ (c .before .before .if1 .left), lt-leb _ _ (c .before .if2 .taken)))
+
+with-inputs-requires : tie.Need-with-inputs-requires
+with-inputs-requires c κs = search needs
+
+done-requires : tie.Need-done-requires
+done-requires c κs =
+    let g = good-of (c .before .before .before .before .args .s) (sym (c .before .before .before .well-formed .ensures) ∙ not-false _ (c .before .before .if1 .left)) in
+    rw (c .with-inputs .ensures) (g .transmit .frame .left-most)
+
+returns-3 : tie.Need-returns-3
+unfolding sinOf
+returns-3 c = rw (c .done .ensures, c .before .with-inputs .ensures) (simp (sym (c .before .before .before .before .well-formed .ensures) ∙ not-false _ (c .before .before .before .if1 .left), le-leb _ _ (c .before .before .if2 .left)))
+
+pub set-sin-spec : {M : Type 1} → statement M
+set-sin-spec =
+    tie.close
+    (tie.spec
+    well-formed-requires
+    refused-requires
+    returns
+    refused-requires-2
+    returns-2
+    with-inputs-requires
+    done-requires
+    returns-3)

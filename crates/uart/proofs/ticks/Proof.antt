@@ -1,0 +1,47 @@
+-- The two rows of the table: 1, or the ticks.
+use Rattle.device.specs.Calls.{ticksAnswer}
+use Rattle.invariant.proofs.Good.{Places, good-of}
+use Rattle.invariant.proofs.Steps.{ticks-kept}
+use Rattle.queue.proofs.Laws.{length-mapped}
+use mathlib.Core.Path.{sym, _∙_}
+use borrow.Author.Tests.{not-true, not-false}
+use borrow.Author.Needs.{needs}
+use Rattle.uart.proofs.ticks.Statement.{statement}
+use Rattle.uart.proofs.ticks.Tie as tie
+
+places : (c : tie.Start) → Places (c .args .s)
+places c = record { bytes-long = search needs; entries-long = search (length-mapped, needs) }
+
+well-formed-requires : tie.Need-well-formed-requires
+well-formed-requires c κs = search needs
+
+refused-requires : tie.Need-refused-requires
+refused-requires c κs = search needs
+
+returns : tie.Need-returns
+unfolding ticksAnswer
+returns c = rw (c .refused .ensures) (simp (sym (c .before .before .well-formed .ensures) ∙ not-true _ (c .before .if1 .taken)))
+
+advance-requires : tie.Need-advance-requires
+advance-requires c κs = sym (c .before .well-formed .ensures) ∙ not-false _ (c .if1 .left)
+
+outputs-requires : tie.Need-outputs-requires
+outputs-requires c κs =
+    let a = c .before .before .before in
+    let k = ticks-kept (a .args .n) (a .args .s) (record { well = sym (c .before .before .well-formed .ensures) ∙ not-false _ (c .before .if1 .left); places = places a }) in
+    rw (c .advance .ensures) (good-of _ (k .well) .transmit .frame .left-most)
+
+returns-2 : tie.Need-returns-2
+unfolding ticksAnswer
+returns-2 c = rw (c .outputs .ensures, c .before .advance .ensures) (simp (sym (c .before .before .before .well-formed .ensures) ∙ not-false _ (c .before .before .if1 .left)))
+
+pub ticks-spec : {M : Type 1} → statement M
+ticks-spec =
+    tie.close
+    (tie.spec
+    well-formed-requires
+    refused-requires
+    returns
+    advance-requires
+    outputs-requires
+    returns-2)
