@@ -22,3 +22,4 @@ pub mod Idle
 pub mod Tick
 pub mod Pins
 pub mod Calls
+pub mod Forecast

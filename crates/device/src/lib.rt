@@ -136,6 +136,28 @@ pub struct Looked {
     pub outputs: Outputs,
 }
 
+// What the forecast answers: T, the ticks until queue and shift register are both empty.
+#[repr(C)]
+pub struct Forecasted {
+    pub number: u8,
+    pub ticks: u32,
+}
+
+// What the call for the line's level answers.
+#[repr(C)]
+pub struct Leveled {
+    pub number: u8,
+    pub level: u8,
+}
+
+// What run answers: the ticks used, and the state after them.
+#[repr(C)]
+pub struct Ran {
+    pub number: u8,
+    pub used: u32,
+    pub state: State,
+}
+
 // The fresh state.
 pub fn fresh() -> State
     ensures { λ r. ⌜ r ≡ freshOf ⌝ }

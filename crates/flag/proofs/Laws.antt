@@ -22,6 +22,11 @@ pub cond-map : {A B : Type 0} (f : A → B) (b : Bool) (x y : A) (x′ y′ : B)
 cond-map f true x y x′ y′ p q = p
 cond-map f false x y x′ y′ p q = q
 
+-- the same on both sides
+pub cond-same : {A B : Type 0} (f : A → B) (b : Bool) (x y : A) (z : B) → f x ≡ z → f y ≡ z → f (cond b x y) ≡ z
+cond-same f true x y z p q = p
+cond-same f false x y z p q = q
+
 -- what each test of a list says
 abbrev pub Each : List Bool → Type 0
 Each [] = Unit {0}

@@ -1,2 +1,4 @@
 pub mod Format
 pub mod Frame
+pub mod Forecast
+pub mod Transmitter

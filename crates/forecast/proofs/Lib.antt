@@ -1,0 +1,3 @@
+pub mod Behind
+pub mod Projected
+pub mod Foretold
