@@ -47,7 +47,7 @@ of-empty s e =
 
 -- What the numbers 4 and 5 leave out.
 
-and-not : (a b : Bool) → (a && b) ≡ false → a ≡ true → b ≡ false
+pub and-not : (a b : Bool) → (a && b) ≡ false → a ≡ true → b ≡ false
 and-not true b e h = e
 and-not false b e h = absurd (false≢true h)
 
@@ -56,11 +56,11 @@ and-not′ true b e h = absurd (false≢true (sym e ∙ h))
 and-not′ false b e h = refl
 
 -- the forecast is neither 4 nor 5
-record Answered (s : State) : Type 0 where
-  clock : noClock s ≡ false
-  free : heldBack s ≡ false
+pub record Answered (s : State) : Type 0 where
+  pub clock : noClock s ≡ false
+  pub free : heldBack s ≡ false
 
-answered-of : (s : State) → wellFormed s ≡ true → forecastNumber s ≡ 0 → Answered s
+pub answered-of : (s : State) → wellFormed s ≡ true → forecastNumber s ≡ 0 → Answered s
 unfolding forecastNumber
 answered-of s w = go (noClock s) refl (heldBack s) refl
   where

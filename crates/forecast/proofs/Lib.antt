@@ -1,3 +1,4 @@
 pub mod Behind
 pub mod Projected
 pub mod Foretold
+pub mod Asked

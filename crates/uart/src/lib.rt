@@ -3,9 +3,12 @@
 //
 // A contract equates the whole answer with a definition of the device's `specs/Calls.antt`.
 use device::Answer;
+use device::Forecasted;
 use device::Inputs;
+use device::Leveled;
 use device::Looked;
 use device::Outputs;
+use device::Ran;
 use device::State;
 use device::autoflow;
 use line::tick;
@@ -13,11 +16,13 @@ use ranges::well_formed;
 use registers::msr;
 use registers::pins::outputs;
 ghost use mathlib.Core.Path.{_≡_};
-ghost use Prim.Native.Nat.{_≤_};
+ghost use Prim.Native.Nat.{ℕ, _≤_};
 ghost use Rattle.frame.specs.Format.{frameLength};
 ghost use Rattle.device.specs.State.{freshOf, withInputs};
 ghost use Rattle.device.specs.Pins.{noOutputs};
-ghost use Rattle.device.specs.Calls.{done as «done-of», refused as «refused-of», resetOf, readOf, writeOf, sinOf, modemOf, tickOf, ticksAnswer, pinsOf};
+ghost use Rattle.device.specs.Calls.{done as «done-of», refused as «refused-of», resetOf, readOf, writeOf, sinOf, modemOf, tickOf, ticksOf, ticksAnswer, pinsOf};
+ghost use Rattle.device.specs.Transmitter.{line};
+ghost use Rattle.device.specs.Forecast.{forecastNumber, pulsesToCome, ticksToCome, forecastOf, levelOf, usedOf, runOf, Foretold, StopsInTime};
 
 // The numbers answered.
 pub const DONE: u8 = 0;
@@ -27,6 +32,10 @@ pub const MALFORMED: u8 = 1;
 pub const BAD_ADDRESS: u8 = 2;
 
 pub const BAD_LEVEL: u8 = 3;
+
+pub const NO_CLOCK: u8 = 4;
+
+pub const HELD_BACK: u8 = 5;
 
 // The last register address, and the highest levels of the input pins.
 const LAST_ADDRESS: u8 = 7;
@@ -192,5 +201,110 @@ pub fn pins(s: State) -> Looked
     Looked {
         number: DONE,
         outputs: outputs(s),
+    }
+}
+
+// The number that the forecast answers: work left without a clock, or bytes queued and held back.
+fn forecast_number(s: State) -> u8
+    ensures { λ r. ⌜ r ≡ forecastNumber s ⌝ }
+{
+    if !well_formed(s) {
+        return MALFORMED;
+    }
+    let count = s.tx.count;
+    let work = flag::either(0 < s.frame.left, 0 < count);
+    if flag::both(work, s.baud.divisor == 0) {
+        return NO_CLOCK;
+    }
+    let r = s.registers;
+    let f = s.fifo;
+    let i = s.inputs;
+    if flag::both(0 < count, autoflow::held(r, f, i)) {
+        return HELD_BACK;
+    }
+    DONE
+}
+
+// p, the pulses until queue and shift register are both empty.
+fn pulses_to_come(s: State) -> u32
+    requires { ⌜ forecastNumber s ≡ 0 ⌝ }
+    ensures { λ r. ⌜ r ≡ pulsesToCome s ⌝ }
+{
+    let length = frame::frame_length(s.registers.lcr % 64);
+    forecast::pulses_left(s.frame.left, s.tx.count, length)
+}
+
+// T, the ticks until then.
+fn ticks_to_come(s: State) -> u32
+    requires { ⌜ forecastNumber s ≡ 0 ⌝ }
+    ensures { λ r. ⌜ r ≡ ticksToCome s ⌝ }
+{
+    forecast::ticks_left(s.baud.k, s.baud.divisor, pulses_to_come(s))
+}
+
+// The forecast: the ticks until queue and shift register are both empty. Whatever number of ticks
+// the state is given, none is refused, the two are empty exactly from the forecast on, and the
+// transmitter's line has the level that the frames spell.
+pub fn forecast(s: State) -> Forecasted
+    ensures outcome { λ r. ⌜ r ≡ forecastOf s ⌝ }
+    ensures every_tick { λ r. ⌜ (r .number ≡ 0 → (t : ℕ) → Foretold s (r .ticks) t) ⌝ }
+{
+    let number = forecast_number(s);
+    if number != DONE {
+        return Forecasted { number, ticks: 0 };
+    }
+    Forecasted {
+        number: DONE,
+        ticks: ticks_to_come(s),
+    }
+}
+
+// The level of the transmitter's line after t ticks.
+pub fn level(s: State, t: u32) -> Leveled
+    ensures outcome { λ r. ⌜ r ≡ levelOf s t ⌝ }
+    ensures ticked { λ r. ⌜ (r .number ≡ 0 → r .level ≡ line (ticksOf t s .frame)) ⌝ }
+{
+    let number = forecast_number(s);
+    if number != DONE {
+        return Leveled { number, level: 0 };
+    }
+    let x = s.frame;
+    let tx = s.tx;
+    let p = pulses_to_come(s);
+    let q = forecast::place_after(s.baud.k, s.baud.divisor, p, t);
+    Leveled {
+        number: DONE,
+        level: forecast::level_at(x, tx, s.registers.lcr % 64, p, q),
+    }
+}
+
+// The ticks that run uses of at most n.
+fn used(s: State, n: u32) -> u32
+    ensures { λ r. ⌜ r ≡ usedOf s n ⌝ }
+{
+    if forecast_number(s) != DONE {
+        return n;
+    }
+    let ticks = ticks_to_come(s);
+    if n < ticks { n } else { ticks }
+}
+
+// At most n ticks, until queue and shift register are both empty.
+pub fn run(s: State, n: u32) -> Ran
+    ensures outcome { λ r. ⌜ r ≡ runOf s n ⌝ }
+    ensures in_time { λ r. ⌜ (r .number ≡ 0 → StopsInTime s n (r .used)) ⌝ }
+{
+    if !well_formed(s) {
+        return Ran {
+            number: MALFORMED,
+            used: 0,
+            state: s,
+        };
+    }
+    let used = used(s, n);
+    Ran {
+        number: DONE,
+        used,
+        state: tick::advance(s, used),
     }
 }
