@@ -23,3 +23,4 @@ pub mod Tick
 pub mod Pins
 pub mod Calls
 pub mod Forecast
+pub mod Rows

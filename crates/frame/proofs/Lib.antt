@@ -6,4 +6,3 @@ pub mod Foretold
 pub mod Stopped
 pub mod Bound
 pub mod Places
-pub mod Rows

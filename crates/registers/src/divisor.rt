@@ -20,7 +20,7 @@ pub fn high(s: State) -> u8
     (s.baud.divisor / 256) as u8
 }
 
-// The state with a new divisor, and k the same.
+// The state with a new divisor, to which k is set too.
 fn with_divisor(s: State, d: u32) -> State
     ensures { λ r. ⌜ r ≡ withDivisor s d ⌝ }
 {

@@ -10,6 +10,7 @@ ghost use mathlib.Core.Bool.{cond};
 ghost use Rattle.flag.specs.Flag.{bit, bitOf};
 ghost use Rattle.device.specs.Fcr.{fifoAfter, switched as «switched-of», clearReceive, clearTransmit, fcrWrite};
 
+// Its bits.
 pub const FCR_ENABLE: u8 = 0x01;
 
 pub const FCR_CLEAR_RX: u8 = 0x02;

@@ -143,10 +143,10 @@ pub fn read(s: State) -> Reading
 {
     let code = interrupt_code(s);
     let byte = code + fifo_code(s.fifo);
-    if code != IIR_TRANSMIT {
-        return Reading { byte, state: s };
-    }
     let mut next = s;
     next.latches = thr::with_empty(s.latches, 0);
-    Reading { byte, state: next }
+    if code == IIR_TRANSMIT {
+        return Reading { byte, state: next };
+    }
+    Reading { byte, state: s }
 }

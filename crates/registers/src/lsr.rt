@@ -14,7 +14,7 @@ pub fn transmitter_empty(s: State) -> bool
     flag::both(s.tx.count == 0, s.frame.left == 0)
 }
 
-// The register, bits 0..3 and 4..7.
+// The register, its lower and its upper four bits.
 pub fn value(s: State) -> u8
     ensures { λ r. ⌜ r ≡ «lsr-of» s ⌝ }
 {
@@ -26,7 +26,7 @@ pub fn value(s: State) -> u8
     low + 16 * high
 }
 
-// The oldest entry without its errors.
+// The queue with its oldest entry's errors cleared.
 fn clear_errors(q: EntryQueue) -> EntryQueue
     ensures { λ r. ⌜ r ≡ clearErrors q ⌝ }
 {

@@ -7,9 +7,8 @@ use device::State;
 use device::modem;
 ghost use mathlib.Core.Path.{_≡_};
 ghost use mathlib.Core.Bool.{cond};
-ghost use Prim.Native.Nat.{_≤_, _<_, _/_, _%_};
-ghost use lib.Dec.{eqb};
-ghost use Rattle.flag.specs.Flag.{bit, bitOf};
+ghost use Prim.Native.Nat.{_≤_};
+ghost use Rattle.flag.specs.Flag.{bit};
 ghost use Rattle.frame.specs.Format.{frameLength};
 ghost use Rattle.device.specs.Transmitter.{line};
 ghost use Rattle.device.specs.Pins.{intrpt as «intrpt-of», outputs as «outputs-of»};
@@ -36,14 +35,6 @@ fn intrpt(s: State) -> u8
     flag::bit(iir::interrupt_code(s) != iir::IIR_NONE)
 }
 
-// The output that a bit of MCR asserts.
-fn asserted(mcr: u8, mask: u8) -> u8
-    requires { ⌜ 0 < mask ⌝ }
-    ensures { λ r. ⌜ r ≡ bitOf (eqb (mcr / mask % 2) 1) ⌝ }
-{
-    flag::bit(flag::has(mcr, mask))
-}
-
 // The levels of the output pins; in loopback no modem output is asserted.
 pub fn outputs(s: State) -> Outputs
     requires { ⌜ s .frame .left ≤ frameLength (s .frame .format) ⌝ }
@@ -68,9 +59,9 @@ pub fn outputs(s: State) -> Outputs
     Outputs {
         sout,
         rts: flag::bit(rts),
-        dtr: asserted(mcr, modem::MCR_DTR),
-        out1: asserted(mcr, modem::MCR_OUT1),
-        out2: asserted(mcr, modem::MCR_OUT2),
+        dtr: flag::bit(flag::has(mcr, modem::MCR_DTR)),
+        out1: flag::bit(flag::has(mcr, modem::MCR_OUT1)),
+        out2: flag::bit(flag::has(mcr, modem::MCR_OUT2)),
         intrpt,
     }
 }

@@ -7,7 +7,7 @@ use queue::EntryQueue;
 ghost use mathlib.Core.Path.{_≡_};
 ghost use Rattle.device.specs.Rbr.{oldest as «oldest-of», restartIdle, rbrRead};
 
-// The oldest received entry; one of zeros where none is queued.
+// The oldest received entry, which stands at place 0.
 pub fn oldest(q: EntryQueue) -> Entry
     ensures { λ r. ⌜ r ≡ «oldest-of» q ⌝ }
 {

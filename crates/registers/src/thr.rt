@@ -13,7 +13,7 @@ pub fn with_empty(l: Latches, empty: u8) -> Latches
     next
 }
 
-// The byte is put behind the last one; the transmit-empty latch goes to 0.
+// The byte is put into the transmit queue; the transmit-empty latch goes to 0.
 pub fn write(s: State, b: u8) -> State
     ensures { λ r. ⌜ r ≡ thrWrite s b ⌝ }
 {

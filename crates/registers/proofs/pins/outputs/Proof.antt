@@ -14,14 +14,17 @@ returns c =
 returns-2 : tie.Need-returns-2
 unfolding outputs
 returns-2 c =
-    let rts = c .before .before .before in
+    let rts = c .before .before .before .before .before .before in
     let outside = rts .before .before .before .before .if1 .left in
     let start = rts .before .before .before .before .before in
     simp (sym (start .before .before .loopback .ensures) ∙ outside)
     (rw (
-      c .asserted3 .ensures,
-      c .before .asserted2 .ensures,
-      c .before .before .asserted .ensures,
+      c .bit4 .ensures .0,
+      c .before .has4 .ensures,
+      c .before .before .bit3 .ensures .0,
+      c .before .before .before .has3 .ensures,
+      c .before .before .before .before .bit2 .ensures .0,
+      c .before .before .before .before .before .has2 .ensures,
       rts .bit .ensures .0,
       rts .before .both .ensures,
       rts .before .before .before .has .ensures,
@@ -35,4 +38,4 @@ outputs-spec =
     tie.close
     (tie.spec (λ c κs. search needs) (λ c κs. search needs) (λ c κs. search needs) returns (λ c κs. search needs)
     (λ c κs. search needs) (λ c κs. search needs) (λ c κs. search needs) (λ c κs. search needs) (λ c κs. search needs)
-    returns-2)
+    (λ c κs. search needs) (λ c κs. search needs) (λ c κs. search needs) returns-2)
