@@ -1,0 +1,102 @@
+#!/usr/bin/env python3
+"""Checks how `calls` reads lines: their forms, their ends, their lengths, blocks and pipes.
+
+usage: lines.py PROGRAM
+"""
+
+import random
+import subprocess
+import sys
+import threading
+
+TICK = b"0 0 1 0 0 0 0 0\n"
+BAD = b"bad\n"
+LARGEST = b"load" + b" 4294967295" * 348
+
+CASES = [
+    (b"", b""), (b"\n", BAD), (b"\n\n", BAD * 2), (b"tick", TICK), (b"tick\n", TICK),
+    (b"tick\n\n", TICK + BAD), (b"tick\r\n", BAD), (b"tick\0\n", BAD), (b"\0", BAD),
+    (b"tick\0", BAD), (b"TICK\n", BAD), (b"ti\n", BAD), (b" tick\n", BAD), (b"tick \n", BAD),
+    (b"\ttick\n", BAD), (b"tick 1\n", BAD),
+    (b"read  0\n", BAD), (b"read 0 \n", BAD), (b"read 00\n", BAD), (b"read +0\n", BAD),
+    (b"read -0\n", BAD), (b"read\n", BAD), (b"read \n", BAD), (b"read 1 2\n", BAD),
+    (b"read 255\n", b"2 0 0 0 0 0 0 0\n"), (b"read 256\n", BAD),
+    (b"write 0 255\n", TICK), (b"write 0 256\n", BAD), (b"write 256 0\n", BAD),
+    (b"sin 255\n", b"3 0 0 0 0 0 0 0\n"), (b"sin 256\n", BAD), (b"modem 256\n", BAD),
+    (b"level 4294967295\n", b"0 1\n"), (b"level 4294967296\n", BAD),
+    (b"level 9999999999\n", BAD), (b"level " + b"1" * 40 + b"\n", BAD),
+    (b"level 18446744073709551616\n", BAD), (b"ticks 0\n", BAD), (b"ticks 1", TICK),
+    (b"run 0\n", b"0 0\n"), (b"run 4294967295\n", b"0 0\n"), (b"run 4294967296\n", BAD),
+    (b"x" * 1000000, BAD), (b"x" * 1000000 + b"\ntick\n", BAD + TICK),
+    (b"tick" + b" " * 5000 + b"\ntick", BAD + TICK),
+    (LARGEST + b"\nstate\npins", b"0\n" + LARGEST[5:] + b"\n1 0 0 0 0 0 0\n"),
+    (LARGEST + b"\n" + b"state\n" * 100, b"0\n" + (LARGEST[5:] + b"\n") * 100),
+    (LARGEST + b" \n", BAD), (LARGEST + b"1\n", BAD), (LARGEST + b" 1\n", BAD),
+    (b"load" + b" 0" * 347, BAD), (b"load" + b" 0" * 349, BAD), (b"load" + b" 0" * 348, b"0\n"),
+]
+for length in (3831, 3832, 3833, 3834, 65535, 65536, 65537, 131072):
+    CASES += [(b"y" * length, BAD), (b"y" * length + b"\n", BAD),
+              (b"y" * length + b"\ntick", BAD + TICK)]
+
+
+def answers(program, text):
+    return subprocess.run([program], input=text, stdout=subprocess.PIPE, check=True).stdout
+
+
+def answers_in_pieces(program, text, pick):
+    """The same text through a pipe, in pieces of odd lengths."""
+    child = subprocess.Popen([program], stdin=subprocess.PIPE, stdout=subprocess.PIPE)
+    taken = []
+    reader = threading.Thread(target=lambda: taken.append(child.stdout.read()))
+    reader.start()
+    at = 0
+    while at < len(text):
+        size = pick.choice((1, 7, 100, 4000, 70000))
+        child.stdin.write(text[at:at + size])
+        child.stdin.flush()
+        at += size
+    child.stdin.close()
+    reader.join()
+    child.wait()
+    return taken[0]
+
+
+def talk(program):
+    """Each line is answered before the next is sent."""
+    child = subprocess.Popen([program], stdin=subprocess.PIPE, stdout=subprocess.PIPE, bufsize=0)
+    child.stdin.write(b"tick\nrea")
+    first = child.stdout.readline()
+    child.stdin.write(b"d 5\n")
+    second = child.stdout.readline()
+    child.stdin.close()
+    rest = child.stdout.read()
+    return (first, second, rest, child.wait()) == (TICK, b"0 96 1 0 0 0 0 0\n", b"", 0)
+
+
+def main():
+    if len(sys.argv) != 2:
+        sys.exit(__doc__.strip())
+    program = sys.argv[1]
+    wrong = 0
+    for text, want in CASES:
+        got = answers(program, text)
+        if got != want:
+            print("%r answered %r, should be %r" % (text[:60], got[:60], want[:60]))
+            wrong += 1
+    pick = random.Random(3)
+    choices = (b"tick", b"read 5", b"", LARGEST, b"fresh", b"state", b"level 3", b"z" * 7000)
+    lines = [pick.choice(choices) for _ in range(300)]
+    text = b"\n".join(lines)
+    whole = answers(program, text)
+    if whole.count(b"\n") != len(lines) or whole != answers_in_pieces(program, text, pick):
+        print("answers depend on how the text comes")
+        wrong += 1
+    if not talk(program):
+        print("a line is not answered at once")
+        wrong += 1
+    print("lines: %d cases, %d wrong" % (len(CASES) + 2, wrong))
+    sys.exit(1 if wrong else 0)
+
+
+if __name__ == "__main__":
+    main()

@@ -1,0 +1,126 @@
+/*
+ * A model of one TL16C750 UART: its bus, serial line, modem pins and clock.
+ * Written from document 01; the section names in the comments are its own.
+ */
+#ifndef MODEL_H
+#define MODEL_H
+
+#include <stdbool.h>
+#include <stdint.h>
+
+#define UART_QUEUE_PLACES 64u
+#define UART_STATE_PLACES 348u
+
+/* "Numbers answered". */
+#define UART_DONE 0u
+#define UART_MALFORMED 1u
+#define UART_BAD_ADDRESS 2u
+#define UART_BAD_LEVEL 3u
+#define UART_NO_CLOCK 4u
+#define UART_HELD 5u
+
+/* What the receiver is doing. */
+#define UART_RX_IDLE 0u
+#define UART_RX_WAIT_MARK 1u
+#define UART_RX_CHARACTER 2u
+
+/* One entry of the receive queue: a byte and the errors that came with it. */
+struct uart_entry {
+    uint32_t byte;
+    uint32_t pe;
+    uint32_t fe;
+    uint32_t bi;
+};
+
+/*
+ * "The state". Every place is 32 bits wide, so that numbers out of range can be
+ * held and refused. The order of the places is that of the text protocol.
+ */
+struct uart {
+    uint32_t ier;
+    uint32_t mcr;
+    uint32_t lcr;
+    uint32_t scr;
+    uint32_t divisor;
+    uint32_t k; /* ticks to the next pulse */
+
+    uint32_t fifo_on;
+    uint32_t size64;
+    uint32_t dma;
+    uint32_t trigger_code;
+    uint32_t modem_pins; /* bits 0..3: CTS, DSR, RI, DCD asserted */
+    uint32_t sin;
+
+    /* Transmit FIFO, or the holding register in character mode; oldest first. */
+    uint32_t tx_count;
+    uint32_t tx_queue[UART_QUEUE_PLACES];
+
+    /* Transmit shift register: the frame now sent. */
+    uint32_t frame_left; /* L, pulses left of it */
+    uint32_t frame_byte;
+    uint32_t frame_format; /* bits 0..5 of LCR when it was loaded */
+
+    /* Receive FIFO, or the buffer register in character mode; oldest first. */
+    uint32_t rx_count;
+    struct uart_entry rx_queue[UART_QUEUE_PLACES];
+
+    /* Receive shift register: the character now received. */
+    uint32_t rx_state;
+    uint32_t rx_position; /* P */
+    uint32_t rx_format;
+    uint32_t rx_data;   /* data samples taken so far, bit 0 first */
+    uint32_t rx_parity; /* parity sample */
+
+    uint32_t tx_empty_latch;
+    uint32_t overrun; /* OE */
+    uint32_t timeout_latch;
+    uint32_t idle_count;
+    uint32_t changes; /* bits 0..3: changes of CTS, DSR, RI, DCD */
+    uint32_t rts_hold;
+};
+
+/* SOUT and INTRPT: 1 is high. The others: 1 is asserted. */
+struct uart_pins {
+    uint32_t sout;
+    uint32_t rts;
+    uint32_t dtr;
+    uint32_t out1;
+    uint32_t out2;
+    uint32_t intrpt;
+};
+
+/* The answer of a step: the number, the byte read, the pins after the step. */
+struct uart_answer {
+    uint32_t number;
+    uint32_t byte;
+    struct uart_pins pins;
+};
+
+/* The answer of forecast (T), level (the level) and run (the ticks used). */
+struct uart_value {
+    uint32_t number;
+    uint32_t value;
+};
+
+/* Whether a state obeys every range of document 01, section "The state". */
+bool uart_well_formed(const struct uart *u);
+
+/*
+ * The calls. Each first checks the state and its arguments; on a refusal the
+ * state stays as it was and the other results are 0.
+ */
+void uart_fresh(struct uart *u);
+struct uart_answer uart_reset(struct uart *u);
+struct uart_answer uart_read(struct uart *u, uint32_t address);
+struct uart_answer uart_write(struct uart *u, uint32_t address, uint8_t byte);
+struct uart_answer uart_set_sin(struct uart *u, uint32_t level);
+struct uart_answer uart_set_modem(struct uart *u, uint32_t pins);
+struct uart_answer uart_tick(struct uart *u);
+struct uart_answer uart_ticks(struct uart *u, uint32_t count);
+struct uart_answer uart_look(const struct uart *u); /* the pins as they are */
+
+struct uart_value uart_forecast(const struct uart *u);
+struct uart_value uart_level(const struct uart *u, uint32_t t);
+struct uart_value uart_run(struct uart *u, uint32_t most);
+
+#endif

@@ -1,0 +1,640 @@
+#!/usr/bin/env python3
+"""Breaks one rule of the model at a time and asks whether compare.py finds it.
+
+usage: mutants.py [--calls N] [--seed S] [--only TEXT]
+
+Each mutant is a change of text in model.c or calls.c. It is built in a folder of
+its own beside the unchanged `calls`; compare.py has to find a difference within
+the given calls. Prints for each mutant the call at which it was found.
+"""
+
+import argparse
+import os
+import re
+import subprocess
+import sys
+import tempfile
+
+HERE = os.path.dirname(os.path.abspath(__file__))
+SOURCES = ("model.h", "model.c", "calls.c")
+
+# Name, file, text, text in its place. The text stands exactly once in the file.
+MUTANTS = [
+    # Document 01, "Models that look right".
+    ("shift register cleared with the FIFO", "model.c",
+     "    memset(u->tx_queue, 0, sizeof u->tx_queue);\n    u->tx_count = 0u;\n",
+     "    memset(u->tx_queue, 0, sizeof u->tx_queue);\n    u->tx_count = 0u;\n"
+     "    u->frame_left = u->frame_byte = u->frame_format = 0u;\n"),
+    ("RI change on both edges", "model.c",
+     "    u->changes |= before & ~after & MODEM_RI;", "    u->changes |= changed & MODEM_RI;"),
+    ("k restarted for each frame", "model.c",
+     "        u->tx_queue[u->tx_count] = byte;\n",
+     "        u->tx_queue[u->tx_count] = byte;\n        if (transmitter_empty(u))\n"
+     "            u->k = u->divisor;\n"),
+    ("16 pulses for every stop", "model.c",
+     "    return data_bits(format) == 5u ? 24u : 32u;", "    return 16u;"),
+    ("time-out before data", "model.c",
+     "    if ((u->ier & IER_RX_DATA) != 0u && rx_data_pending(u))",
+     "    if ((u->ier & IER_RX_DATA) != 0u && u->timeout_latch != 0u)\n"
+     "        return IIR_TIMEOUT;\n"
+     "    if ((u->ier & IER_RX_DATA) != 0u && rx_data_pending(u))"),
+    ("a later entry's error in LSR2", "model.c",
+     "    if (oldest->pe != 0u)\n",
+     "    if (oldest->pe != 0u || u->rx_queue[1].pe != 0u)\n"),
+
+    # Frames.
+    ("parity of all eight bits", "model.c", "ones_are_odd(byte & data_mask(format))",
+     "ones_are_odd(byte)"),
+    ("stick parity as LCR4", "model.c", "        return even ^ 1u;", "        return even;"),
+    ("parity odd and even swapped", "model.c", "data_mask(format)) ^ even ^ 1u;",
+     "data_mask(format)) ^ even;"),
+    ("24 stop pulses for all widths", "model.c",
+     "    return data_bits(format) == 5u ? 24u : 32u;", "    return 24u;"),
+    ("32 stop pulses for five bits", "model.c",
+     "    return data_bits(format) == 5u ? 24u : 32u;", "    return 32u;"),
+    ("frame sent in the present format", "model.c",
+     "    return frame_level(u->frame_byte, u->frame_format,\n"
+     "                       frame_length(u->frame_format) - u->frame_left);",
+     "    return frame_level(u->frame_byte, u->lcr,\n"
+     "                       frame_length(u->frame_format) - u->frame_left);"),
+    ("frame byte cut to the width", "model.c", "    u->frame_byte = take_transmit_byte(u);",
+     "    u->frame_byte = take_transmit_byte(u) & data_mask(u->lcr);"),
+    ("frame byte kept after the frame", "model.c",
+     "        u->frame_byte = 0u;\n        u->frame_format = 0u;\n    }",
+     "        u->frame_format = 0u;\n    }"),
+
+    # Transmitter.
+    ("one pulse between frames", "model.c",
+     "        u->frame_byte = 0u;\n        u->frame_format = 0u;\n    }",
+     "        u->frame_byte = 0u;\n        u->frame_format = 0u;\n        return;\n    }"),
+    ("latch set at each load", "model.c",
+     "    if (u->tx_count == 0u)\n        u->tx_empty_latch = 1u;\n}\n\n/* If L > 0",
+     "    u->tx_empty_latch = 1u;\n}\n\n/* If L > 0"),
+    ("no latch at the last load", "model.c",
+     "    if (u->tx_count == 0u)\n        u->tx_empty_latch = 1u;\n}\n\n/* If L > 0",
+     "}\n\n/* If L > 0"),
+    ("hold looked at during a frame", "model.c", "    if (u->frame_left != 0u) {\n        u->frame_left--;",
+     "    if (u->frame_left != 0u) {\n        if (held(u))\n            return;\n"
+     "        u->frame_left--;"),
+    ("held never", "model.c", "    if (u->tx_count != 0u && !held(u))\n", "    if (u->tx_count != 0u)\n"),
+    ("held by the pin in loopback", "model.c",
+     "    return autoflow(u) && (effective_modem(u) & MODEM_CTS) == 0u;",
+     "    return autoflow(u) && (u->modem_pins & MODEM_CTS) == 0u;"),
+    ("held by RTS after its hold in loopback", "model.c",
+     "    if ((u->mcr & MCR_RTS) != 0u)\n        levels |= MODEM_CTS;",
+     "    if ((u->mcr & MCR_RTS) != 0u && u->rts_hold == 0u)\n        levels |= MODEM_CTS;"),
+    ("autoflow in character mode", "model.c",
+     "    return (u->mcr & MCR_AUTOFLOW) != 0u && u->fifo_on != 0u;",
+     "    return (u->mcr & MCR_AUTOFLOW) != 0u;"),
+
+    # Receiver.
+    ("no false start", "model.c",
+     "        if (line != 0u)\n            leave_character(u, UART_RX_IDLE);\n        return false;",
+     "        return false;"),
+    ("samples one pulse late", "model.c", "#define FIRST_SAMPLE 8u", "#define FIRST_SAMPLE 9u"),
+    ("character in the present format", "model.c",
+     "    width = data_bits(u->rx_format);\n    if (sample == 0u) {",
+     "    width = data_bits(u->lcr);\n    if (sample == 0u) {"),
+    ("parity expected by the present format", "model.c",
+     "    uint32_t format = u->rx_format;\n", "    uint32_t format = u->lcr;\n"),
+    ("idle after a framing error", "model.c", "        begin_character(u, FIRST_SAMPLE);",
+     "        leave_character(u, UART_RX_IDLE);"),
+    ("next start at P = 0 after a framing error", "model.c",
+     "        begin_character(u, FIRST_SAMPLE);", "        begin_character(u, 0u);"),
+    ("old format after a framing error", "model.c",
+     "        begin_character(u, FIRST_SAMPLE);",
+     "    {\n        begin_character(u, FIRST_SAMPLE);\n        u->rx_format = format;\n    }"),
+    ("idle after a break", "model.c", "        leave_character(u, UART_RX_WAIT_MARK);",
+     "        leave_character(u, UART_RX_IDLE);"),
+    ("wait for mark after every framing error", "model.c",
+     "    else if (entry.bi != 0u)\n", "    else if (entry.fe != 0u)\n"),
+    ("break without the parity sample", "model.c",
+     "    if (stop == 0u && u->rx_data == 0u && u->rx_parity == 0u)",
+     "    if (stop == 0u && u->rx_data == 0u)"),
+    ("no PE in a break", "model.c", "        entry.bi = 1u;\n",
+     "    {\n        entry.bi = 1u;\n        entry.pe = 0u;\n    }\n"),
+    ("no FE in a break", "model.c", "        entry.bi = 1u;\n",
+     "    {\n        entry.bi = 1u;\n        entry.fe = 0u;\n    }\n"),
+    ("a start in the pulse that ends a break", "model.c",
+     "    } else if (line != 0u) {\n        u->rx_state = UART_RX_IDLE;\n    }",
+     "    } else if (line == 0u) {\n        u->rx_state = UART_RX_IDLE;\n    }"),
+    ("no OE", "model.c", "    u->overrun = 1u;\n", ""),
+    ("no OE in character mode", "model.c", "    u->overrun = 1u;\n", "    u->overrun |= u->fifo_on;\n"),
+    ("the old character kept in character mode", "model.c",
+     "    u->rx_queue[0] = entry;\n    return true;", "    return true;"),
+    ("errors kept when a character is replaced", "model.c",
+     "    u->rx_queue[0] = entry;\n    return true;",
+     "    u->rx_queue[0].byte = entry.byte;\n    return true;"),
+    ("the last entry replaced in a full FIFO", "model.c",
+     "    if (u->fifo_on != 0u)\n        return false;\n    u->rx_queue[0] = entry;",
+     "    if (u->fifo_on != 0u) {\n        u->rx_queue[u->rx_count - 1u] = entry;\n"
+     "        return false;\n    }\n    u->rx_queue[0] = entry;"),
+    ("looped receiver a pulse late", "model.c",
+     "    pulse_transmitter(u);\n    entered = pulse_receiver(u);",
+     "    entered = pulse_receiver(u);\n    pulse_transmitter(u);"),
+    ("receiver hears SIN in loopback", "model.c",
+     "    uint32_t line = loopback(u) ? transmitter_line(u) : u->sin;",
+     "    uint32_t line = u->sin;"),
+    ("break heard in loopback", "model.c",
+     "    uint32_t line = loopback(u) ? transmitter_line(u) : u->sin;",
+     "    uint32_t line = loopback(u) ? ((u->lcr & LCR_BREAK) != 0u ? 0u : transmitter_line(u))"
+     " : u->sin;"),
+
+    # Idle count and time-out.
+    ("idle count restarted by a lost character", "model.c",
+     "    if (u->fifo_on != 0u)\n        return false;\n    u->rx_queue[0] = entry;",
+     "    if (u->fifo_on != 0u)\n        return true;\n    u->rx_queue[0] = entry;"),
+    ("time-out latch cleared by a new character", "model.c",
+     "        u->idle_count = 0u;\n        return;\n",
+     "        u->idle_count = 0u;\n        u->timeout_latch = 0u;\n        return;\n"),
+    ("time-out at 4F", "model.c", "    if (u->idle_count > 4u * frame_length(u->lcr))",
+     "    if (u->idle_count >= 4u * frame_length(u->lcr))"),
+    ("time-out at 640 for all formats", "model.c",
+     "    if (u->idle_count > 4u * frame_length(u->lcr))", "    if (u->idle_count > 640u)"),
+    ("idle count stops at 768", "model.c", "    if (u->idle_count < IDLE_LIMIT)",
+     "    if (u->idle_count < IDLE_LIMIT - 1u)"),
+    ("idle count rests during a reception", "model.c",
+     "    if (u->idle_count < IDLE_LIMIT)",
+     "    if (u->idle_count < IDLE_LIMIT && u->rx_state == UART_RX_IDLE)"),
+    ("time-out needs IER0", "model.c", "    if (u->idle_count > 4u * frame_length(u->lcr))",
+     "    if ((u->ier & 1u) != 0u && u->idle_count > 4u * frame_length(u->lcr))"),
+    ("no latch without a new count", "model.c",
+     "        u->idle_count++;\n    if (u->idle_count > 4u",
+     "        u->idle_count++;\n    if (u->idle_count == 1u + 4u"),
+    ("RBR read keeps the idle count", "model.c",
+     "    u->timeout_latch = 0u;\n    u->idle_count = 0u;\n    return take_receive_byte(u);",
+     "    u->timeout_latch = 0u;\n    if (u->rx_count == 1u)\n        u->idle_count = 0u;\n"
+     "    return take_receive_byte(u);"),
+    ("RBR read keeps the time-out latch", "model.c",
+     "    u->timeout_latch = 0u;\n    u->idle_count = 0u;\n    return take_receive_byte(u);",
+     "    if (u->rx_count == 1u)\n        u->timeout_latch = 0u;\n    u->idle_count = 0u;\n"
+     "    return take_receive_byte(u);"),
+
+    # Registers.
+    ("THR write dropped in character mode", "model.c",
+     "    } else if (u->fifo_on == 0u) {\n        u->tx_queue[0] = byte;\n    }", "    }"),
+    ("THR write replaces the last byte of a full FIFO", "model.c",
+     "    } else if (u->fifo_on == 0u) {\n        u->tx_queue[0] = byte;\n    }",
+     "    } else {\n        u->tx_queue[u->tx_count - 1u] = byte;\n    }"),
+    ("THR write keeps the latch", "model.c",
+     "        u->tx_queue[0] = byte;\n    }\n    u->tx_empty_latch = 0u;\n",
+     "        u->tx_queue[0] = byte;\n    }\n"),
+    ("latch set by every IER write with bit 1", "model.c",
+     "(u->ier & IER_TX_EMPTY) == 0u && (byte & IER_TX_EMPTY) != 0u;",
+     "(byte & IER_TX_EMPTY) != 0u;"),
+    ("latch set by IER only with L = 0", "model.c", "    if (raised && u->tx_count == 0u)",
+     "    if (raised && transmitter_empty(u))"),
+    ("latch cleared with IER bit 1", "model.c", "    u->ier = byte & IER_MASK;\n",
+     "    u->ier = byte & IER_MASK;\n    if ((byte & IER_TX_EMPTY) == 0u)\n"
+     "        u->tx_empty_latch = 0u;\n"),
+    ("IER four bits", "model.c", "    u->ier = byte & IER_MASK;", "    u->ier = byte & 0x0Fu;"),
+    ("MCR five bits", "model.c", "    u->mcr = byte & MCR_MASK;", "    u->mcr = byte & 0x1Fu;"),
+    ("IIR read clears the latch at every code", "model.c", "    if (code == IIR_TX_EMPTY)\n", ""),
+    ("IIR read keeps the latch", "model.c",
+     "    if (code == IIR_TX_EMPTY)\n        u->tx_empty_latch = 0u;\n", ""),
+    ("IIR size bit with FIFO off", "model.c",
+     "    if (u->fifo_on == 0u)\n        return code;\n    return code | IIR_FIFO_ON",
+     "    if (u->fifo_on == 0u)\n        return code | (u->size64 << 5);\n"
+     "    return code | IIR_FIFO_ON"),
+    ("FCR size without LCR7", "model.c", "    if (divisor_access(u))\n        size64 =",
+     "        size64 ="),
+    ("FCR size only set, never cleared", "model.c",
+     "        size64 = (byte & FCR_SIZE64) != 0u ? 1u : 0u;",
+     "        size64 |= (byte & FCR_SIZE64) != 0u ? 1u : 0u;"),
+    ("FCR trigger and DMA guarded by LCR7", "model.c",
+     "    u->dma = (byte & FCR_DMA) != 0u ? 1u : 0u;\n",
+     "    if (divisor_access(u))\n        u->dma = (byte & FCR_DMA) != 0u ? 1u : 0u;\n"),
+    ("same size clears the queues", "model.c",
+     "    changed = u->fifo_on == 0u || size64 != u->size64;",
+     "    changed = u->fifo_on == 0u || divisor_access(u);"),
+    ("size change clears nothing", "model.c",
+     "    changed = u->fifo_on == 0u || size64 != u->size64;",
+     "    changed = u->fifo_on == 0u || (size64 != u->size64 && (u->tx_count > 16u"
+     " || u->rx_count > 16u));"),
+    ("FIFO on clears nothing", "model.c",
+     "    changed = u->fifo_on == 0u || size64 != u->size64;",
+     "    changed = size64 != u->size64;"),
+    ("FIFO off clears when off", "model.c",
+     "    if (u->fifo_on == 0u)\n        return;\n    u->fifo_on = 0u;", "    u->fifo_on = 0u;"),
+    ("FIFO off clears the trigger and size", "model.c",
+     "    if (u->fifo_on == 0u)\n        return;\n    u->fifo_on = 0u;",
+     "    if (u->fifo_on == 0u)\n        return;\n    u->fifo_on = u->trigger_code = 0u;"),
+    ("FCR bits taken with bit 0 clear", "model.c",
+     "        turn_fifo_off(u);\n        return;",
+     "        turn_fifo_off(u);\n        if ((byte & FCR_CLEAR_TX) != 0u)\n"
+     "            clear_transmit_queue(u);\n        return;"),
+    ("FCR clears swapped", "model.c", "#define FCR_CLEAR_RX 0x02u\n#define FCR_CLEAR_TX 0x04u",
+     "#define FCR_CLEAR_RX 0x04u\n#define FCR_CLEAR_TX 0x02u"),
+    ("clearing an empty transmit queue sets the latch", "model.c",
+     "    if (u->tx_count == 0u)\n        return;\n    memset(u->tx_queue",
+     "    memset(u->tx_queue"),
+    ("clearing the transmit queue sets no latch", "model.c",
+     "    u->tx_count = 0u;\n    u->tx_empty_latch = 1u;\n", "    u->tx_count = 0u;\n"),
+    ("OE cleared by FCR", "model.c", "    u->rx_count = 0u;\n    u->timeout_latch = 0u;",
+     "    u->rx_count = 0u;\n    u->overrun = 0u;\n    u->timeout_latch = 0u;"),
+    ("character being received cleared by FCR", "model.c",
+     "    u->rx_count = 0u;\n    u->timeout_latch = 0u;",
+     "    u->rx_count = 0u;\n    u->rx_state = u->rx_position = u->rx_format = 0u;\n"
+     "    u->rx_data = u->rx_parity = 0u;\n    u->timeout_latch = 0u;"),
+    ("LSR7 in character mode", "model.c", "    if (u->fifo_on != 0u && any_entry_has_error(u))",
+     "    if (any_entry_has_error(u))"),
+    ("LSR7 of the oldest entry only", "model.c",
+     "    if (u->fifo_on != 0u && any_entry_has_error(u))",
+     "    if (u->fifo_on != 0u && entry_has_error(oldest))"),
+    ("LSR6 without L", "model.c", "    if (transmitter_empty(u))\n        lsr |= LSR_TX_EMPTY;",
+     "    if (u->tx_count == 0u)\n        lsr |= LSR_TX_EMPTY;"),
+    ("LSR read keeps OE", "model.c", "    u->overrun = 0u;\n    oldest->pe = 0u;",
+     "    oldest->pe = 0u;"),
+    ("LSR read keeps the oldest entry's BI", "model.c",
+     "    oldest->fe = 0u;\n    oldest->bi = 0u;", "    oldest->fe = 0u;"),
+    ("LSR read clears the next entry's errors", "model.c", "    oldest->bi = 0u;\n    return lsr;",
+     "    oldest->bi = 0u;\n    if (u->rx_count > 1u)\n        u->rx_queue[1].pe = 0u;\n"
+     "    return lsr;"),
+    ("MSR read keeps the changes", "model.c", "    u->changes = 0u;\n    return msr;",
+     "    return msr;"),
+    ("LSR write sets OE", "model.c", "    case ADDR_SCR:\n        u->scr = byte;",
+     "    case ADDR_LSR:\n        u->overrun = (byte >> 1) & 1u;\n        break;\n"
+     "    case ADDR_SCR:\n        u->scr = byte;"),
+    ("divisor write keeps k if D stays", "model.c", "    u->divisor = divisor;\n    u->k = divisor;",
+     "    if (divisor != u->divisor)\n        u->k = divisor;\n    u->divisor = divisor;"),
+    ("divisor write keeps k", "model.c", "    u->divisor = divisor;\n    u->k = divisor;",
+     "    u->divisor = divisor;\n    if (u->k > divisor || u->k == 0u)\n        u->k = divisor;"),
+    ("RBR read with LCR7", "model.c", "divisor_access(u) ? u->divisor & 0xFFu : read_rbr(u);",
+     "divisor_access(u) ? (read_rbr(u), u->divisor & 0xFFu) : read_rbr(u);"),
+    ("IER read with LCR7", "model.c", "divisor_access(u) ? u->divisor >> 8 : u->ier;", "u->ier;"),
+
+    # Loopback and modem.
+    ("pin changes in loopback", "model.c",
+     "    u->modem_pins = pins;\n    record_changes(u, before);",
+     "    before = u->modem_pins;\n    u->modem_pins = pins;\n"
+     "    u->changes |= (before ^ pins) & 11u;\n    u->changes |= before & ~pins & 4u;"),
+    ("no changes by MCR writes", "model.c", "    record_changes(u, before);\n}\n\n/* Writes to LSR",
+     "    (void)before;\n}\n\n/* Writes to LSR"),
+    ("CTS and DSR swapped in loopback", "model.c",
+     "    if ((u->mcr & MCR_RTS) != 0u)\n        levels |= MODEM_CTS;\n"
+     "    if ((u->mcr & MCR_DTR) != 0u)\n        levels |= MODEM_DSR;",
+     "    if ((u->mcr & MCR_DTR) != 0u)\n        levels |= MODEM_CTS;\n"
+     "    if ((u->mcr & MCR_RTS) != 0u)\n        levels |= MODEM_DSR;"),
+    ("RI and DCD swapped in loopback", "model.c",
+     "    if ((u->mcr & MCR_OUT1) != 0u)\n        levels |= MODEM_RI;\n"
+     "    if ((u->mcr & MCR_OUT2) != 0u)\n        levels |= MODEM_DCD;",
+     "    if ((u->mcr & MCR_OUT2) != 0u)\n        levels |= MODEM_RI;\n"
+     "    if ((u->mcr & MCR_OUT1) != 0u)\n        levels |= MODEM_DCD;"),
+    ("SOUT low by LCR6 in loopback", "model.c",
+     "    if (loopback(u))\n        return 1u;\n    if ((u->lcr & LCR_BREAK) != 0u)\n"
+     "        return 0u;",
+     "    if ((u->lcr & LCR_BREAK) != 0u)\n        return 0u;\n    if (loopback(u))\n"
+     "        return 1u;"),
+    ("SOUT shows the line in loopback", "model.c",
+     "    if (loopback(u))\n        return 1u;\n    if ((u->lcr & LCR_BREAK) != 0u)\n",
+     "    if ((u->lcr & LCR_BREAK) != 0u && !loopback(u))\n"),
+    ("outputs asserted in loopback", "model.c",
+     "    pins.sout = sout_level(u);\n    if (!loopback(u)) {",
+     "    pins.sout = sout_level(u);\n    {"),
+    ("RTS without the hold", "model.c", "(u->mcr & MCR_RTS) != 0u && u->rts_hold == 0u ? 1u : 0u;",
+     "(u->mcr & MCR_RTS) != 0u ? 1u : 0u;"),
+
+    # The rules that end each step.
+    ("hold not applied at an MCR write", "model.c",
+     "    write_register(u, address, byte);\n    end_step(u);",
+     "    write_register(u, address, byte);\n    if (address != ADDR_MCR)\n        end_step(u);"),
+    ("hold not applied at an FCR write", "model.c",
+     "    write_register(u, address, byte);\n    end_step(u);",
+     "    write_register(u, address, byte);\n    if (address != ADDR_IIR_FCR)\n"
+     "        end_step(u);"),
+    ("hold not applied at a read", "model.c",
+     "    byte = read_register(u, address);\n    end_step(u);",
+     "    byte = read_register(u, address);"),
+    ("hold not applied at a pulse", "model.c",
+     "    pulse_idle_count(u, entered);\n    end_step(u);", "    pulse_idle_count(u, entered);"),
+    ("hold released below the trigger", "model.c",
+     "        return 1u;\n    return u->rts_hold;", "        return 1u;\n    return 0u;"),
+    ("hold without MCR1", "model.c", "    return autoflow(u) && (u->mcr & MCR_RTS) != 0u;",
+     "    return autoflow(u);"),
+    ("hold above the trigger only", "model.c",
+     "    if (u->rx_count >= trigger_level(u))\n        return 1u;\n    return u->rts_hold;",
+     "    if (u->rx_count > trigger_level(u))\n        return 1u;\n    return u->rts_hold;"),
+    ("CTS change kept under autoflow", "model.c",
+     "    if (autoflow(u))\n        u->changes &= ~MODEM_CTS;\n    u->rts_hold",
+     "    u->rts_hold"),
+    ("CTS change deferred until autoflow ends", "model.c",
+     "    u->mcr = byte & MCR_MASK;\n    record_changes(u, before);",
+     "    if ((u->mcr & MCR_AUTOFLOW) != 0u && (byte & MCR_AUTOFLOW) == 0u)\n"
+     "        u->changes |= MODEM_CTS;\n    u->mcr = byte & MCR_MASK;\n"
+     "    record_changes(u, before);"),
+
+    # Interrupts.
+    ("modem before transmit-empty", "model.c",
+     "    if ((u->ier & IER_TX_EMPTY) != 0u && u->tx_empty_latch != 0u)",
+     "    if ((u->ier & IER_MODEM) != 0u && u->changes != 0u)\n        return IIR_MODEM;\n"
+     "    if ((u->ier & IER_TX_EMPTY) != 0u && u->tx_empty_latch != 0u)"),
+    ("transmit-empty before time-out", "model.c",
+     "    if ((u->ier & IER_RX_DATA) != 0u && u->timeout_latch != 0u)\n        return IIR_TIMEOUT;\n"
+     "    if ((u->ier & IER_TX_EMPTY) != 0u && u->tx_empty_latch != 0u)\n"
+     "        return IIR_TX_EMPTY;",
+     "    if ((u->ier & IER_TX_EMPTY) != 0u && u->tx_empty_latch != 0u)\n"
+     "        return IIR_TX_EMPTY;\n"
+     "    if ((u->ier & IER_RX_DATA) != 0u && u->timeout_latch != 0u)\n        return IIR_TIMEOUT;"),
+    ("data before line status", "model.c",
+     "    if ((u->ier & IER_LINE_STATUS) != 0u && line_status_pending(u))",
+     "    if ((u->ier & IER_RX_DATA) != 0u && rx_data_pending(u))\n        return IIR_RX_DATA;\n"
+     "    if ((u->ier & IER_LINE_STATUS) != 0u && line_status_pending(u))"),
+    ("line status of any entry", "model.c",
+     "    return u->overrun != 0u || entry_has_error(&u->rx_queue[0]);",
+     "    return u->overrun != 0u || entry_has_error(&u->rx_queue[0]) ||\n"
+     "           entry_has_error(&u->rx_queue[1]);"),
+    ("line status without OE", "model.c",
+     "    return u->overrun != 0u || entry_has_error(&u->rx_queue[0]);",
+     "    return entry_has_error(&u->rx_queue[0]);"),
+    ("data interrupt above the trigger only", "model.c",
+     "    return u->rx_count >= trigger_level(u);\n}\n\nstatic uint32_t interrupt_code",
+     "    return u->rx_count > trigger_level(u);\n}\n\nstatic uint32_t interrupt_code"),
+    ("data interrupt at the trigger in character mode", "model.c",
+     "    if (u->fifo_on == 0u)\n        return u->rx_count != 0u;\n", ""),
+    ("trigger 60 at size 64", "model.c", "{ 1u, 16u, 32u, 56u } };", "{ 1u, 16u, 32u, 60u } };"),
+    ("trigger 15 at size 16", "model.c", "{ { 1u, 4u, 8u, 14u },", "{ { 1u, 4u, 8u, 15u },"),
+    ("INTRPT gated by OUT2", "model.c",
+     "    pins.intrpt = interrupt_code(u) != IIR_NONE ? 1u : 0u;",
+     "    pins.intrpt = interrupt_code(u) != IIR_NONE && pins.out2 != 0u ? 1u : 0u;"),
+
+    # Reset.
+    ("reset clears SCR", "model.c", "    uart_fresh(u);\n    u->scr = scr;\n",
+     "    uart_fresh(u);\n    (void)scr;\n"),
+    ("reset keeps k", "model.c",
+     "    uart_fresh(u);\n    u->scr = scr;\n    write_divisor(u, divisor);\n",
+     "    divisor += u->k << 16;\n    uart_fresh(u);\n    u->scr = scr;\n"
+     "    u->k = divisor >> 16;\n    u->divisor = divisor & 0xFFFFu;\n"),
+    ("reset raises SIN", "model.c", "    u->modem_pins = modem_pins;\n    u->sin = sin;\n",
+     "    u->modem_pins = modem_pins;\n    (void)sin;\n"),
+    ("reset sets the transmit-empty latch", "model.c",
+     "    u->modem_pins = modem_pins;\n    u->sin = sin;\n",
+     "    u->modem_pins = modem_pins;\n    u->sin = sin;\n    u->tx_empty_latch = 1u;\n"),
+
+    # Forecast, level, run.
+    ("forecast by the frame's format", "model.c",
+     "    uint32_t queued = u->tx_count * frame_length(u->lcr);",
+     "    uint32_t queued = u->tx_count *\n"
+     "                      frame_length(u->frame_left != 0u ? u->frame_format : u->lcr);"),
+    ("forecast without the pulse of loading", "model.c",
+     "    return u->tx_count != 0u ? 1u + queued : 0u;", "    return queued;"),
+    ("forecast in whole pulses", "model.c", "u->k + (pulses - 1u) * u->divisor);",
+     "pulses * u->divisor);"),
+    ("level a place early", "model.c", "        place = 1u + (t - u->k) / u->divisor;",
+     "        place = (t - u->k) / u->divisor;"),
+    ("level at t = k a place early", "model.c",
+     "    if (pulses_left(u) == 0u || t < u->k)", "    if (pulses_left(u) == 0u || t <= u->k)"),
+    ("level not refused at t = 0", "model.c",
+     "    uint32_t place;\n\n    if (number != UART_DONE)",
+     "    uint32_t place;\n\n    if (number > UART_MALFORMED && t == 0u)\n"
+     "        return value(UART_DONE, transmitter_line(u));\n    if (number != UART_DONE)"),
+    ("5 only with L = 0", "model.c", "    if (u->tx_count != 0u && held(u))\n        return UART_HELD;",
+     "    if (u->tx_count != 0u && u->frame_left == 0u && held(u))\n        return UART_HELD;"),
+    ("5 without bytes queued", "model.c",
+     "    if (u->tx_count != 0u && held(u))\n        return UART_HELD;",
+     "    if (!transmitter_empty(u) && held(u))\n        return UART_HELD;"),
+    ("5 before 4", "model.c",
+     "    if (!transmitter_empty(u) && u->divisor == 0u)",
+     "    if (u->tx_count != 0u && held(u))\n        return UART_HELD;\n"
+     "    if (!transmitter_empty(u) && u->divisor == 0u)"),
+    ("4 without work", "model.c", "    if (!transmitter_empty(u) && u->divisor == 0u)",
+     "    if (u->divisor == 0u)"),
+    ("run until the queue is empty", "model.c",
+     "    while (used < most && !transmitter_empty(u)) {",
+     "    while (used < most && u->tx_count != 0u) {"),
+    ("run looks after the tick", "model.c",
+     "    while (used < most && !transmitter_empty(u)) {\n        tick(u);\n        used++;\n    }",
+     "    while (used < most) {\n        tick(u);\n        used++;\n        if (transmitter_empty(u))\n"
+     "            break;\n    }"),
+    ("run refused without clock", "model.c",
+     "        return value(UART_MALFORMED, 0u);\n    while",
+     "        return value(UART_MALFORMED, 0u);\n    if (forecast_number(u) != UART_DONE)\n"
+     "        return value(forecast_number(u), 0u);\n    while"),
+    ("2 before 1", "model.c",
+     "    uint32_t byte;\n\n    if (!uart_well_formed(u))\n        return refuse(UART_MALFORMED);\n"
+     "    if (address > ADDR_LAST)\n        return refuse(UART_BAD_ADDRESS);\n    byte",
+     "    uint32_t byte;\n\n    if (address > ADDR_LAST)\n        return refuse(UART_BAD_ADDRESS);\n"
+     "    if (!uart_well_formed(u))\n        return refuse(UART_MALFORMED);\n    byte"),
+    ("address taken modulo 8", "model.c",
+     "    if (address > ADDR_LAST)\n        return refuse(UART_BAD_ADDRESS);\n"
+     "    write_register(u, address, byte);",
+     "    write_register(u, address & 7u, byte);"),
+    ("modem pins masked", "model.c",
+     "    if (pins > MODEM_MASK)\n        return refuse(UART_BAD_LEVEL);", "    pins &= MODEM_MASK;"),
+
+    # Ranges.
+    ("range: IER", "model.c", "u->ier <= IER_MASK && ", "u->ier <= 255u && "),
+    ("range: MCR", "model.c", "u->mcr <= MCR_MASK && ", "u->mcr <= 255u && "),
+    ("range: LCR", "model.c", "u->lcr <= 0xFFu && ", "(u->lcr & 0xFFFFu) <= 0xFFu && "),
+    ("range: SCR", "model.c", " && u->scr <= 0xFFu;", ";"),
+    ("range: divisor", "model.c", "    if (u->divisor > 0xFFFFu)\n        return false;\n", ""),
+    ("range: k without divisor", "model.c", "        return u->k == 0u;", "        return u->k <= 1u;"),
+    ("range: k zero", "model.c", "    return u->k >= 1u && u->k <= u->divisor;",
+     "    return u->k <= u->divisor;"),
+    ("range: k above divisor", "model.c", "    return u->k >= 1u && u->k <= u->divisor;",
+     "    return u->k >= 1u && u->k <= u->divisor + 1u;"),
+    ("range: DMA bit", "model.c", "u->dma <= 1u && ", ""),
+    ("range: SIN", "model.c", "u->modem_pins <= MODEM_MASK && u->sin <= 1u;",
+     "u->modem_pins <= MODEM_MASK;"),
+    ("range: transmit places beyond the count", "model.c",
+     "    return used <= 0xFFu && beyond == 0u;", "    return used <= 0xFFu;"),
+    ("range: queued bytes", "model.c", "    return used <= 0xFFu && beyond == 0u;",
+     "    return beyond == 0u;"),
+    ("range: receive places beyond the count", "model.c",
+     "    return bytes <= 0xFFu && errors <= 1u && beyond == 0u;",
+     "    return bytes <= 0xFFu && errors <= 1u;"),
+    ("range: receive errors", "model.c",
+     "    return bytes <= 0xFFu && errors <= 1u && beyond == 0u;",
+     "    return bytes <= 0xFFu && beyond == 0u;"),
+    ("range: receive bytes", "model.c",
+     "    return bytes <= 0xFFu && errors <= 1u && beyond == 0u;",
+     "    return errors <= 1u && beyond == 0u;"),
+    ("range: transmit count of 64 in a FIFO of 16", "model.c",
+     "    if (u->tx_count > capacity(u))", "    if (u->tx_count > 64u)"),
+    ("range: receive count of 64 in a FIFO of 16", "model.c",
+     "    if (u->rx_count > capacity(u))", "    if (u->rx_count > 64u)"),
+    ("range: L of another format", "model.c",
+     "           u->frame_format <= FORMAT_MASK && u->frame_left <= frame_length(u->frame_format);",
+     "           u->frame_format <= FORMAT_MASK;"),
+    ("range: frame byte without L", "model.c",
+     "        return u->frame_byte == 0u && u->frame_format == 0u;",
+     "        return u->frame_byte <= 255u && u->frame_format == 0u;"),
+    ("range: frame format", "model.c", "           u->frame_format <= FORMAT_MASK && ",
+     "           u->frame_format <= 255u && "),
+    ("range: receiver places outside a character", "model.c",
+     "        return (u->rx_position | u->rx_format | u->rx_data | u->rx_parity) == 0u;",
+     "        return (u->rx_position | u->rx_format | u->rx_data) == 0u && u->rx_parity <= 1u;"),
+    ("range: P at the stop position", "model.c",
+     "        u->rx_position >= stop_position(u->rx_format))",
+     "        u->rx_position > stop_position(u->rx_format))"),
+    ("range: data samples not yet taken", "model.c",
+     "    if ((u->rx_data >> data_taken) != 0u)", "    if ((u->rx_data >> width) != 0u)"),
+    ("range: data above the width", "model.c",
+     "    if ((u->rx_data >> data_taken) != 0u)",
+     "    if ((u->rx_data >> (taken > 1u && taken < 10u ? taken - 1u : data_taken)) != 0u)"),
+    ("range: parity sample", "model.c", "    return u->rx_parity <= (taken == width + 2u ? 1u : 0u);",
+     "    return u->rx_parity <= parity_bits(u->rx_format);"),
+    ("range: latch on a queue", "model.c",
+     "    if (u->tx_empty_latch != 0u && u->tx_count != 0u)\n        return false;\n", ""),
+    ("range: time-out latch with FIFO off", "model.c",
+     "        return u->timeout_latch == 0u && u->idle_count == 0u;",
+     "        return u->idle_count == 0u;"),
+    ("range: idle count with FIFO off", "model.c",
+     "        return u->timeout_latch == 0u && u->idle_count == 0u;",
+     "        return u->timeout_latch == 0u;"),
+    ("range: idle count 770", "model.c", "        u->idle_count > IDLE_LIMIT ||",
+     "        u->idle_count > 1023u ||"),
+    ("range: time-out latch needs the count", "model.c",
+     "        return u->timeout_latch == 0u && u->idle_count == 0u;\n    return true;",
+     "        return u->timeout_latch == 0u && u->idle_count == 0u;\n"
+     "    return u->timeout_latch == 0u || u->idle_count != 0u;"),
+    ("range: count above 4F needs the latch", "model.c",
+     "        return u->timeout_latch == 0u && u->idle_count == 0u;\n    return true;",
+     "        return u->timeout_latch == 0u && u->idle_count == 0u;\n"
+     "    return u->timeout_latch != 0u || u->idle_count <= 4u * frame_length(u->lcr);"),
+    ("range: BI needs FE", "model.c",
+     "        errors |= u->rx_queue[i].pe | u->rx_queue[i].fe | u->rx_queue[i].bi;",
+     "        errors |= u->rx_queue[i].pe | u->rx_queue[i].fe | u->rx_queue[i].bi;\n"
+     "        if (u->rx_queue[i].bi > u->rx_queue[i].fe)\n            return false;"),
+    ("range: size bit 0 with FIFO off", "model.c",
+     "    return u->fifo_on <= 1u && u->size64 <= 1u && ",
+     "    return u->fifo_on <= 1u && u->size64 <= u->fifo_on && "),
+    ("range: CTS change with autoflow", "model.c",
+     "    if (autoflow(u) && (u->changes & MODEM_CTS) != 0u)\n        return false;\n", ""),
+    ("range: hold by its rule", "model.c", "    return u->rts_hold == hold_by_rule(u);",
+     "    return true;"),
+    ("range: hold at the trigger", "model.c", "    return u->rts_hold == hold_by_rule(u);",
+     "    return u->rts_hold <= (auto_rts(u) && u->rx_count != 0u ? 1u : 0u);"),
+
+    # More of each kind.
+    ("hold released by a raised trigger", "model.c",
+     "    u->trigger_code = byte >> FCR_TRIGGER_SHIFT;\n",
+     "    u->trigger_code = byte >> FCR_TRIGGER_SHIFT;\n    u->rts_hold = 0u;\n"),
+    ("trigger guarded by LCR7", "model.c", "    u->trigger_code = byte >> FCR_TRIGGER_SHIFT;\n",
+     "    if (divisor_access(u))\n        u->trigger_code = byte >> FCR_TRIGGER_SHIFT;\n"),
+    ("PE without a parity bit", "model.c",
+     "    if (parity_bits(format) != 0u && u->rx_parity != parity_bit(u->rx_data, format))",
+     "    if (u->rx_parity != parity_bit(u->rx_data, format))"),
+    ("PE never with stick parity", "model.c",
+     "    if (parity_bits(format) != 0u && u->rx_parity != parity_bit(u->rx_data, format))",
+     "    if (parity_bits(format) != 0u && (format & LCR_STICK) == 0u &&\n"
+     "        u->rx_parity != parity_bit(u->rx_data, format))"),
+    ("received bits at the top of the byte", "model.c", "    entry.byte = u->rx_data;",
+     "    entry.byte = u->rx_data << (8u - data_bits(format));"),
+    ("MSR shows the pins in loopback", "model.c",
+     "    uint32_t msr = (effective_modem(u) << MSR_LEVEL_SHIFT) | u->changes;",
+     "    uint32_t msr = (u->modem_pins << MSR_LEVEL_SHIFT) | u->changes;"),
+    ("time-out latch cleared by IIR read", "model.c", "    if (u->fifo_on == 0u)\n        return code;\n",
+     "    if (code == IIR_TIMEOUT)\n        u->timeout_latch = 0u;\n    if (u->fifo_on == 0u)\n"
+     "        return code;\n"),
+    ("latch cleared by LSR read", "model.c", "    u->overrun = 0u;\n    oldest->pe = 0u;",
+     "    u->overrun = 0u;\n    u->tx_empty_latch = 0u;\n    oldest->pe = 0u;"),
+    ("OE cleared by RBR read", "model.c", "    return take_receive_byte(u);",
+     "    u->overrun = 0u;\n    return take_receive_byte(u);"),
+    ("data interrupt from one byte on", "model.c", "    if (u->fifo_on == 0u)\n        return u->rx_count != 0u;",
+     "    if (u->rx_count != 0u)\n        return true;"),
+    ("time-out only below the trigger", "model.c",
+     "    if (u->idle_count > 4u * frame_length(u->lcr))",
+     "    if (u->rx_count < trigger_level(u) && u->idle_count > 4u * frame_length(u->lcr))"),
+    ("a lost break is not waited out", "model.c", "    if (u->fifo_on != 0u)\n        return false;\n    u->rx_queue[0]",
+     "    if (u->fifo_on != 0u) {\n        if (u->rx_state == UART_RX_WAIT_MARK)\n"
+     "            u->rx_state = UART_RX_IDLE;\n        return false;\n    }\n    u->rx_queue[0]"),
+    ("range: P up to the second stop bit", "model.c",
+     "    return FIRST_SAMPLE + PULSES_PER_BIT * (1u + data_bits(format) + parity_bits(format));",
+     "    return FIRST_SAMPLE + PULSES_PER_BIT * (1u + data_bits(format) + parity_bits(format)) +\n"
+     "           ((format & LCR_STOP) != 0u ? PULSES_PER_BIT : 0u);"),
+    ("second stop bit sampled", "model.c", "    return end_character(u, line);",
+     "    if ((u->rx_format & LCR_STOP) != 0u && sample == 1u + width + parity_bits(u->rx_format))\n"
+     "        return false;\n    return end_character(u, line);"),
+    ("reset takes a malformed state", "model.c",
+     "    if (!uart_well_formed(u))\n        return refuse(UART_MALFORMED);\n    uart_fresh(u);",
+     "    uart_fresh(u);"),
+    ("fresh clears SIN", "model.c", "    u->sin = 1u;\n", "    u->sin = 0u;\n"),
+    ("tick without divisor pulses", "model.c", "    if (u->divisor == 0u)\n        return;\n    u->k--;",
+     "    if (u->divisor == 0u) {\n        pulse(u);\n        return;\n    }\n    u->k--;"),
+    ("FIFO off keeps the queues", "model.c",
+     "    u->fifo_on = 0u;\n    clear_receive_queue(u);\n    clear_transmit_queue(u);",
+     "    u->fifo_on = 0u;\n    if (u->rx_count > 1u || u->idle_count != 0u || u->timeout_latch != 0u)\n"
+     "        clear_receive_queue(u);\n    if (u->tx_count > 1u)\n        clear_transmit_queue(u);"),
+    ("DTR and RTS swapped", "model.c", "#define MCR_DTR 0x01u\n#define MCR_RTS 0x02u",
+     "#define MCR_DTR 0x02u\n#define MCR_RTS 0x01u"),
+    ("level in the present format for the frame now sent", "model.c",
+     "        return frame_level(u->frame_byte, u->frame_format,\n",
+     "        return frame_level(u->frame_byte, format,\n"),
+    ("level low between L = 0 and the load", "model.c", "    if (place < first)\n        return 1u;",
+     "    if (place < first)\n        return 0u;"),
+    ("time-out cleared with the idle count only at 0", "model.c",
+     "    if (u->idle_count < IDLE_LIMIT)\n        u->idle_count++;",
+     "    if (u->idle_count <= 4u * frame_length(u->lcr))\n        u->idle_count++;"),
+
+    # Lines.
+    ("leading zeros taken", "calls.c", "(*first == '0' && at - first > 1) || ", ""),
+    ("numbers above 32 bits taken", "calls.c", " || sum > UINT32_MAX)", ")"),
+    ("ticks 0 taken", "calls.c", '{ "ticks", 1, 1, UINT32_MAX,', '{ "ticks", 1, 0, UINT32_MAX,'),
+    ("addresses above 255 taken", "calls.c", '{ "read", 1, 0, 255,', '{ "read", 1, 0, 999,'),
+    ("text after the numbers taken", "calls.c", "    return at == end;\n", "    return true;\n"),
+    ("words by their beginning", "calls.c", "if (strlen(forms[i].word) == length && ",
+     "if (strlen(forms[i].word) <= length && "),
+]
+
+
+def build(folder, changes):
+    os.makedirs(folder, exist_ok=True)
+    for name in SOURCES:
+        with open(os.path.join(HERE, name)) as source:
+            text = source.read()
+        for file, old, new in changes:
+            if file == name:
+                if text.count(old) != 1:
+                    raise ValueError("text found %d times: %s" % (text.count(old), old))
+                text = text.replace(old, new)
+        with open(os.path.join(folder, name), "w") as target:
+            target.write(text)
+    program = os.path.join(folder, "calls")
+    subprocess.run(["gcc", "-std=c11", "-O1", "-w", "-o", program,
+                    os.path.join(folder, "calls.c"), os.path.join(folder, "model.c")], check=True)
+    return program
+
+
+def found_at(good, bad, seed, calls):
+    done = subprocess.run([sys.executable, os.path.join(HERE, "compare.py"), good, bad,
+                           "--seed", str(seed), "--calls", str(calls)],
+                          stdout=subprocess.PIPE, check=False)
+    text = done.stdout.decode("latin-1")
+    match = re.search(r"^difference at call (\d+)$", text, re.M)
+    if match:
+        return int(match.group(1))
+    if done.returncode:
+        print(text[-300:])
+    return None
+
+
+def main():
+    parser = argparse.ArgumentParser(description="asks whether compare.py finds broken rules")
+    parser.add_argument("--calls", type=int, default=200000)
+    parser.add_argument("--seed", type=int, default=1)
+    parser.add_argument("--only", default="")
+    given = parser.parse_args()
+    missed = 0
+    tried = 0
+    latest = 0
+    with tempfile.TemporaryDirectory() as folder:
+        good = build(os.path.join(folder, "good"), [])
+        for name, file, old, new in MUTANTS:
+            if given.only not in name:
+                continue
+            bad = build(os.path.join(folder, "bad"), [(file, old, new)])
+            at = found_at(good, bad, given.seed, given.calls)
+            tried += 1
+            if at is None:
+                missed += 1
+                print("%-60s not found" % name)
+            else:
+                latest = max(latest, at)
+                print("%-60s call %d" % (name, at))
+            sys.stdout.flush()
+    print("%d mutants, %d not found, the last one at call %d" % (tried, missed, latest))
+    sys.exit(1 if missed else 0)
+
+
+if __name__ == "__main__":
+    main()

@@ -1,0 +1,405 @@
+#!/usr/bin/env python3
+"""Drives `calls` through the rules where document 01 leaves room, as they are read here.
+
+Each part names the rule: a section of document 01, or what was decided beside it.
+
+usage: readings.py PROGRAM
+"""
+
+import sys
+
+import states as st
+from rows import FCR, IER, IIR, LCR, LSR, MCR, MSR, RBR, THR, Rows, clocked, fifo16
+
+
+def fifo(s, size64=0, code=0):
+    s[st.FIFO_ON], s[st.SIZE64], s[st.TRIGGER] = 1, size64, code
+    return s
+
+
+def received(s, count, errors=(0, 0, 0)):
+    st.set_entries(s, [(0x30 + i % 64,) + errors for i in range(count)])
+    return st.settle(s)
+
+
+def state_1_to_7(r):
+    r.start("FIFO off keeps size, DMA bit and trigger")
+    r.write(LCR, 0x80)
+    r.write(FCR, 0xE9)
+    r.write(LCR, 0x00)
+    r.write(FCR, 0x00)
+    r.call("state", st.SIZE64, 1)
+    r.call("state", st.DMA, 1)
+    r.call("state", st.TRIGGER, 3)
+    r.read(IIR, 0x01)
+    r.write(FCR, 0x01)
+    r.read(IIR, 0xE1)
+    r.call("state", st.TRIGGER, 0)
+    r.call("reset", 0, 0)
+    r.write(FCR, 0x01)
+    r.read(IIR, 0xC1)
+
+    part = "well formed: BI without FE, BI with a byte, time-out with count 0, count without latch"
+    for entry, timeout, idle in (((0, 0, 0, 1), 0, 0), ((0xFF, 0, 1, 1), 0, 0),
+                                 ((0x41, 0, 0, 0), 1, 0), ((0x41, 0, 0, 0), 0, 769)):
+        s = fifo(clocked(lcr=0x00))
+        st.set_entries(s, [entry])
+        s[st.TIMEOUT], s[st.IDLE] = timeout, idle
+        r.start(part, s)
+        r.call("pins", 0, 0)
+
+    for form in (0x00, 0x0A):
+        width = st.data_bits(form)
+        for i in range(width + st.parity_bits(form)):
+            for place, number in ((23 + 16 * i, 1), (24 + 16 * i, 0)):
+                s = clocked()
+                s[st.RX_STATE], s[st.P], s[st.RX_FORMAT] = st.RX_CHARACTER, place, form
+                if i < width:
+                    s[st.RX_DATA] = 1 << i
+                else:
+                    s[st.RX_PARITY] = 1
+                r.start("samples taken up to P", s)
+                r.call("pins", 0, number)
+
+    r.start("frame byte kept whole, 0 after its last pulse", clocked(lcr=0x00))
+    r.write(THR, 0xFF)
+    r.ticks(112)
+    r.call("state", st.BYTE, 255)
+    r.call("state", st.L, 1)
+    r.ticks(1)
+    r.call("state", st.BYTE, 0)
+    r.call("state", st.L, 0)
+
+    s = clocked()
+    s[st.MCR], s[st.SIN] = 0x1F, 0
+    r.start("reset ends loopback without changes, and starts on a level", s)
+    r.call("state", st.TX_LATCH, 0)
+    r.call("reset", 0, 0)
+    r.read(MSR, 0x00)
+    r.call("state", st.TX_LATCH, 0)
+    r.call("state", st.RX_STATE, st.RX_IDLE)
+    r.ticks(1)
+    r.call("state", st.RX_STATE, st.RX_CHARACTER)
+
+
+def ends_of_steps(r):
+    s = fifo(clocked())
+    s[st.MCR] = 0x20
+    r.start("CTS change under autoflow is lost", s)
+    r.call("modem 1", 0, 0)
+    r.write(MCR, 0x00)
+    r.read(MSR, 0x10)
+
+    r.start("turning autoflow on clears a CTS change", fifo(clocked()))
+    r.call("modem 1", 0, 0)
+    r.call("state", st.CHANGES, 1)
+    r.write(MCR, 0x20)
+    r.call("state", st.CHANGES, 0)
+
+    r.start("turning FIFO and so autoflow on clears a CTS change", clocked())
+    r.write(MCR, 0x20)
+    r.call("modem 1", 0, 0)
+    r.call("state", st.CHANGES, 1)
+    r.write(FCR, 0x01)
+    r.read(MSR, 0x10)
+
+    s = fifo(clocked())
+    s[st.MCR] = 0x30
+    s[st.MODEM] = 1
+    r.start("turning autoflow off with a move of CTS records it", s)
+    r.write(MCR, 0x00)
+    r.read(MSR, 0x11)
+
+    r.start("auto-RTS turned on between: no hold", received(fifo(clocked(), 0, 2), 5))
+    r.write(MCR, 0x22)
+    r.call("pins", 2, 1)
+    r.call("state", st.HOLD, 0)
+    r.write(FCR, 0x41)  # trigger 4
+    r.call("pins", 2, 0)
+    r.write(FCR, 0xC1)  # trigger 14
+    r.call("pins", 2, 0)
+    for i in range(4):
+        r.read(RBR, 0x30 + i)
+    r.call("pins", 2, 0)
+    r.read(RBR, 0x34)
+    r.call("pins", 2, 1)
+
+    s = fifo(clocked())
+    s[st.MCR] = 0x32
+    received(s, 2)
+    st.set_queue(s, [0x41])
+    r.start("looped CTS is MCR1 without the hold", s)
+    r.call("state", st.HOLD, 1)
+    r.forecast(0, 161)
+    r.read(MSR, 0x10)
+    r.ticks(1)
+    r.call("state", st.L, 160)
+
+    s = fifo(clocked())
+    s[st.MCR], s[st.L], s[st.BYTE], s[st.FORMAT] = 0x20, 2, 0x41, 0x03
+    st.set_queue(s, [0x42])
+    r.start("held is looked at when a byte would be loaded", s)
+    r.ticks(1)
+    r.call("state", st.L, 1)
+    r.ticks(1)
+    r.call("state", st.L, 0)
+    r.ticks(100)
+    r.call("state", st.TX_COUNT, 1)
+    r.call("modem 1", 0, 0)
+    r.ticks(1)
+    r.call("state", st.L, 160)
+    r.call("modem 0", 0, 0)
+    r.call("run 1000", 1, 160)
+
+
+def numbers(r):
+    s = fifo(clocked())
+    s[st.MCR], s[st.L], s[st.FORMAT] = 0x20, 5, 0x03
+    st.set_queue(s, [0x41])
+    r.start("5 also while L > 0, for every t", s)
+    r.forecast(5, 0)
+    r.call("level 0", 0, 5)
+    r.call("level 4294967295", 0, 5)
+    r.call("run 9", 0, 0)
+    r.call("state", st.L, 0)
+    s[st.DIVISOR] = s[st.K] = 0
+    r.start("4 before 5", s)
+    r.forecast(4, 0)
+    r.call("level 0", 0, 4)
+    r.call("run 9", 1, 9)
+    r.call("read 8", 0, 2)
+    r.call("sin 2", 0, 3)
+    r.call("modem 16", 0, 3)
+    r.start("run with nothing to send", clocked())
+    r.call("run 100", 1, 0)
+
+
+def registers_14_to_20(r):
+    s = received(fifo(clocked()), 3)
+    s[st.TIMEOUT], s[st.IDLE] = 1, 700
+    r.start("RBR read", s)
+    r.write(LCR, 0x83)
+    r.read(RBR, 1)  # divisor
+    r.call("state", st.RX_COUNT, 3)
+    r.write(LCR, 0x03)
+    r.read(RBR, 0x30)
+    r.call("state", st.IDLE, 0)
+    r.call("state", st.TIMEOUT, 0)
+    r.call("state", st.RX_COUNT, 2)
+
+    s = clocked()
+    s[st.L], s[st.FORMAT] = 9, 0x03
+    r.start("IER bit 1 raised", s)
+    r.write(IER, 0x02)
+    r.call("pins", 6, 1)
+    r.write(IER, 0x00)
+    r.call("state", st.TX_LATCH, 1)
+    r.write(IER, 0x02)
+    r.read(IIR, 0x02)
+    r.write(IER, 0x03)
+    r.read(IIR, 0x01)
+
+    s = received(clocked(), 1)
+    s[st.IER], s[st.TX_LATCH] = 0x03, 1
+    r.start("IIR read clears the latch only where it answers 02", s)
+    r.read(IIR, 0x04)
+    r.call("state", st.TX_LATCH, 1)
+    r.read(RBR, 0x30)
+    r.read(IIR, 0x02)
+    r.read(IIR, 0x01)
+
+    s = received(clocked(), 1)
+    st.set_queue(s, [0x41])
+    r.start("FIFO off when off changes nothing", s)
+    r.write(FCR, 0xFE)
+    r.call("state", st.RX_COUNT, 1)
+    r.call("state", st.TX_COUNT, 1)
+    r.call("state", st.TRIGGER, 0)
+
+    s = received(fifo(clocked(lcr=0x83), 1), 2)
+    st.set_queue(s, [0x41])
+    s[st.OE] = 1
+    r.start("FCR: the same size clears nothing, another clears both", s)
+    r.write(FCR, 0x21)
+    r.call("state", st.RX_COUNT, 2)
+    r.call("state", st.TX_COUNT, 1)
+    r.write(FCR, 0x01)
+    r.call("state", st.RX_COUNT, 0)
+    r.call("state", st.TX_LATCH, 1)
+    r.call("state", st.OE, 1)
+    r.read(IIR, 0xC1)
+
+    s = fifo(clocked())
+    r.start("clearing an empty transmit queue leaves the latch", s)
+    r.write(FCR, 0x07)
+    r.write(FCR, 0x00)
+    r.call("state", st.TX_LATCH, 0)
+
+    s = fifo(clocked())
+    st.set_entries(s, [(1, 1, 0, 0), (2, 0, 1, 0), (3, 0, 0, 0)])
+    r.start("LSR7 before the clearing; later entries keep their errors", s)
+    r.read(LSR, 0xE5)
+    r.read(LSR, 0xE1)
+    r.read(RBR, 1)
+    r.read(LSR, 0xE9)
+    r.read(LSR, 0x61)
+
+    s = clocked()
+    s[st.MCR] = 0x10
+    r.start("pin changes inside loopback set nothing, MCR writes do", s)
+    r.call("modem 15", 0, 0)
+    r.read(MSR, 0x00)
+    r.write(MCR, 0x1F)
+    r.read(MSR, 0xFB)
+    r.write(MCR, 0x10)
+    r.read(MSR, 0x0F)
+    r.write(MCR, 0x00)
+    r.read(MSR, 0xFB)
+
+    r.start("a divisor write sets k", clocked(lcr=0x83, divisor=12, k=5))
+    r.write(0, 12)
+    r.call("state", st.K, 12)
+    r.ticks(3)
+    r.write(1, 0)
+    r.call("state", st.K, 12)
+    r.write(1, 1)
+    r.call("state", st.K, 268)
+
+
+def pulses_21_to_25(r):
+    s = fifo(clocked())
+    st.set_queue(s, [0x41, 0x42])
+    r.start("no gap between frames", s)
+    r.ticks(160)
+    r.call("state", st.L, 1)
+    r.ticks(1)
+    r.call("state", st.L, 160)
+    s[st.MCR] = 0x10
+    r.start("the looped receiver hears the pulse of loading", s)
+    r.ticks(1)
+    r.call("state", st.RX_STATE, st.RX_CHARACTER)
+    r.call("state", st.P, 0)
+    r.ticks(152)
+    r.read(LSR, 0x01)
+    r.read(RBR, 0x41)
+
+    s = received(fifo(clocked()), 16)
+    s[st.IDLE] = 500
+    r.start("a lost character does not restart the idle count", s)
+    r.sin_bits(st.frame_bits(0x41, 0x03)[:-1])
+    r.call("sin 1", 0, 0)
+    r.ticks(9)
+    r.call("state", st.OE, 1)
+    r.call("state", st.IDLE, 653)
+    r.call("state", st.TIMEOUT, 1)
+
+    s = received(fifo(clocked()), 2)
+    s[st.IDLE] = 600
+    r.start("a new character keeps the time-out latch", s)
+    r.sin_bits(st.frame_bits(0x41, 0x03)[:-1])
+    r.call("state", st.TIMEOUT, 1)
+    r.call("sin 1", 0, 0)
+    r.ticks(9)
+    r.call("state", st.RX_COUNT, 3)
+    r.call("state", st.IDLE, 0)
+    r.call("state", st.TIMEOUT, 1)
+
+    s = received(fifo(clocked()), 1)
+    s[st.IDLE] = 500
+    r.start("4F by the present LCR, in each pulse", s)
+    r.ticks(1)
+    r.call("state", st.TIMEOUT, 0)
+    r.write(LCR, 0x00)
+    r.call("state", st.TIMEOUT, 0)
+    r.ticks(1)
+    r.call("state", st.TIMEOUT, 1)
+    r.ticks(1000)
+    r.call("state", st.IDLE, 769)
+
+    r.start("the low stop sample is a start bit at P = 8", clocked())
+    r.sin_bits([0, 1, 1, 1, 1, 1, 1, 1, 1])
+    r.call("sin 0", 0, 0)
+    r.write(LCR, 0x00)
+    r.ticks(9)
+    r.call("state", st.P, 8)
+    r.call("state", st.RX_FORMAT, 0)
+    r.read(LSR, 0x69)
+    r.call("sin 1", 0, 0)
+    r.ticks(96)
+    r.read(LSR, 0x63)
+    r.read(RBR, 0x1F)
+
+    r.start("the pulse that ends a break only makes the receiver idle", clocked())
+    r.call("sin 0", 0, 0)
+    r.ticks(400)
+    r.call("state", st.RX_STATE, st.RX_MARK)
+    r.call("sin 1", 0, 0)
+    r.ticks(1)
+    r.call("state", st.RX_STATE, st.RX_IDLE)
+    r.call("sin 0", 0, 0)
+    r.ticks(1)
+    r.call("state", st.RX_STATE, st.RX_CHARACTER)
+
+    for lcr, lsr in ((0x0B, 0x7D), (0x1B, 0x79), (0x2B, 0x7D), (0x3B, 0x79)):
+        r.start("PE of a break", clocked(lcr))
+        r.call("sin 0", 0, 0)
+        r.ticks(168)
+        r.read(LSR, 0x60)
+        r.ticks(1)
+        r.read(LSR, lsr)
+        r.read(RBR, 0)
+
+    s = clocked(0x1B)
+    st.set_entries(s, [(0x55, 1, 1, 1)])
+    r.start("in character mode byte and errors are replaced", s)
+    r.sin_bits(st.frame_bits(0x41, 0x1B))
+    r.read(LSR, 0x63)
+    r.read(RBR, 0x41)
+
+
+def narrow_places(r):
+    s = fifo16(clocked())
+    s[st.L], s[st.BYTE], s[st.FORMAT] = 100, 0x41, 0x03
+    st.set_queue(s, [0x42])
+    r.start("clearing the transmit FIFO leaves the shift register", s)
+    r.write(FCR, 0x05)
+    r.call("state", st.L, 100)
+    r.forecast(0, 100)
+    r.read(LSR, 0x20)
+    r.call("run 1000", 1, 100)
+    r.read(LSR, 0x60)
+
+    s = clocked()
+    s[st.IER] = 0x0F
+    s[st.CHANGES] = 2
+    r.start("INTRPT is gated by nothing", s)
+    for mcr in (0x00, 0x08, 0x10):
+        r.write(MCR, mcr)
+        r.call("pins", 6, 1)
+
+    s = clocked(0x43)
+    s[st.L], s[st.BYTE], s[st.FORMAT] = 16, 0, 0x03
+    r.start("LCR6 lowers SOUT outside loopback only", s)
+    r.call("pins", 1, 0)
+    r.call("level 0", 1, 1)
+    r.write(MCR, 0x10)
+    r.call("pins", 1, 1)
+    r.ticks(20)
+    r.call("state", st.RX_STATE, st.RX_IDLE)
+
+
+ALL_PARTS = (state_1_to_7, ends_of_steps, numbers, registers_14_to_20, pulses_21_to_25,
+             narrow_places)
+
+
+def main():
+    if len(sys.argv) != 2:
+        sys.exit(__doc__.strip())
+    r = Rows("readings")
+    for part in ALL_PARTS:
+        part(r)
+    sys.exit(0 if r.check(sys.argv[1]) else 1)
+
+
+if __name__ == "__main__":
+    main()

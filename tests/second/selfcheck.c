@@ -1,0 +1,399 @@
+/*
+ * Self check of the model.
+ *
+ * Demand 3: on random well-formed states, the forecast, the foretold level and
+ * run are compared with single ticks and with the string of levels that document
+ * 01 ("Forecast and run") describes, written out place by place.
+ *
+ * Steps: every step on a well-formed state gives a well-formed state, and a
+ * refused one leaves the state as it was.
+ */
+#include "model.h"
+
+#include <inttypes.h>
+#include <stdio.h>
+#include <stdlib.h>
+#include <string.h>
+
+#define FORECAST_STATES 4000u
+#define STEP_STATES 20000u
+#define JOURNEYS 200u
+#define JOURNEY_STEPS 2000u
+#define LONGEST_STRING (192u + 64u * 192u)
+
+static uint64_t seed = 0x16C750u;
+
+/* xorshift64 */
+static uint32_t draw(uint32_t n)
+{
+    seed ^= seed << 13;
+    seed ^= seed >> 7;
+    seed ^= seed << 17;
+    return (uint32_t)((seed >> 33) % n);
+}
+
+static void fail(const char *what, const struct uart *u, uint32_t wanted, uint32_t got)
+{
+    uint32_t places[UART_STATE_PLACES];
+
+    memcpy(places, u, sizeof places);
+    printf("%s: wanted %" PRIu32 ", got %" PRIu32 " on load", what, wanted, got);
+    for (size_t i = 0; i < UART_STATE_PLACES; i++)
+        printf(" %" PRIu32, places[i]);
+    printf("\n");
+    exit(EXIT_FAILURE);
+}
+
+static void expect(const char *what, const struct uart *u, uint32_t wanted, uint32_t got)
+{
+    if (wanted != got)
+        fail(what, u, wanted, got);
+}
+
+/* ---- Frames, written out ---- */
+
+static size_t put_level(uint8_t *string, size_t at, uint32_t level, uint32_t pulses)
+{
+    memset(string + at, (int)level, pulses);
+    return at + pulses;
+}
+
+/* All levels of a frame; returns how many. */
+static size_t put_frame(uint8_t *string, size_t at, uint32_t byte, uint32_t format)
+{
+    uint32_t width = 5u + (format & 3u);
+    uint32_t ones = 0u;
+
+    at = put_level(string, at, 0u, 16u);
+    for (uint32_t i = 0u; i < width; i++) {
+        at = put_level(string, at, (byte >> i) & 1u, 16u);
+        ones += (byte >> i) & 1u;
+    }
+    if ((format & 0x08u) != 0u) {
+        bool even = (format & 0x10u) != 0u;
+        bool bit = even ? ones % 2u == 1u : ones % 2u == 0u;
+
+        if ((format & 0x20u) != 0u)
+            bit = !even;
+        at = put_level(string, at, bit ? 1u : 0u, 16u);
+    }
+    at = put_level(string, at, 1u, 16u);
+    if ((format & 0x04u) != 0u)
+        at = put_level(string, at, 1u, width == 5u ? 8u : 16u);
+    return at;
+}
+
+static uint32_t length_of(uint32_t format)
+{
+    static uint8_t frame[192];
+
+    return (uint32_t)put_frame(frame, 0, 0u, format);
+}
+
+/* The string of p levels of a state; returns p. */
+static size_t put_string(uint8_t *string, const struct uart *u)
+{
+    uint8_t frame[192];
+    size_t at = 0;
+
+    if (u->frame_left != 0u) {
+        size_t length = put_frame(frame, 0, u->frame_byte, u->frame_format);
+
+        at = u->frame_left;
+        memcpy(string, frame + length - at, at);
+    } else if (u->tx_count != 0u) {
+        at = put_level(string, 0, 1u, 1u);
+    }
+    for (uint32_t i = 0u; i < u->tx_count; i++)
+        at = put_frame(string, at, u->tx_queue[i], u->lcr & 63u);
+    return at;
+}
+
+/* ---- Random well-formed states ---- */
+
+static uint32_t draw_byte(void)
+{
+    static const uint32_t bytes[] = { 0x00u, 0xFFu, 0x55u, 0xAAu, 0x41u, 0x80u };
+
+    return draw(2u) != 0u ? bytes[draw(6u)] : draw(256u);
+}
+
+static void draw_queues(struct uart *u)
+{
+    uint32_t size = u->fifo_on == 0u ? 1u : u->size64 != 0u ? 64u : 16u;
+
+    u->tx_count = draw(4u) != 0u ? draw(size < 4u ? size + 1u : 4u) : draw(size + 1u);
+    for (uint32_t i = 0u; i < u->tx_count; i++)
+        u->tx_queue[i] = draw_byte();
+    u->rx_count = draw(size + 1u);
+    for (uint32_t i = 0u; i < u->rx_count; i++) {
+        u->rx_queue[i].byte = draw_byte();
+        u->rx_queue[i].pe = draw(8u) == 0u ? 1u : 0u;
+        u->rx_queue[i].fe = draw(8u) == 0u ? 1u : 0u;
+        u->rx_queue[i].bi = draw(8u) == 0u ? 1u : 0u;
+    }
+}
+
+static void draw_frame(struct uart *u)
+{
+    uint32_t length;
+
+    if (draw(3u) == 0u)
+        return;
+    u->frame_format = draw(64u);
+    u->frame_byte = draw_byte();
+    length = length_of(u->frame_format);
+    switch (draw(4u)) {
+    case 0:
+        u->frame_left = 1u;
+        break;
+    case 1:
+        u->frame_left = length;
+        break;
+    default:
+        u->frame_left = 1u + draw(length);
+        break;
+    }
+}
+
+static void draw_receiver(struct uart *u)
+{
+    uint32_t width;
+    uint32_t parity;
+
+    u->rx_state = draw(3u);
+    if (u->rx_state != UART_RX_CHARACTER)
+        return;
+    u->rx_format = draw(64u);
+    width = 5u + (u->rx_format & 3u);
+    parity = (u->rx_format >> 3) & 1u;
+    u->rx_position = draw(8u + 16u * (1u + width + parity));
+    for (uint32_t i = 0u; i < width; i++)
+        if (u->rx_position >= 24u + 16u * i)
+            u->rx_data |= draw(2u) << i;
+    if (parity != 0u && u->rx_position >= 24u + 16u * width)
+        u->rx_parity = draw(2u);
+}
+
+static void draw_latches(struct uart *u)
+{
+    static const uint32_t triggers[2][4] = { { 1u, 4u, 8u, 14u }, { 1u, 16u, 32u, 56u } };
+    bool flow = (u->mcr & 0x20u) != 0u && u->fifo_on != 0u;
+
+    u->tx_empty_latch = u->tx_count == 0u ? draw(2u) : 0u;
+    u->overrun = draw(2u);
+    if (u->fifo_on != 0u && u->rx_count != 0u) {
+        u->timeout_latch = draw(2u);
+        u->idle_count = draw(770u);
+    }
+    u->changes = draw(16u);
+    if (flow)
+        u->changes &= 14u;
+    if (flow && (u->mcr & 0x02u) != 0u && u->rx_count != 0u)
+        u->rts_hold = u->rx_count >= triggers[u->size64][u->trigger_code] ? 1u : draw(2u);
+}
+
+static void draw_state(struct uart *u, uint32_t largest_divisor)
+{
+    memset(u, 0, sizeof *u);
+    u->ier = draw(64u);
+    u->mcr = draw(64u);
+    u->lcr = draw(256u);
+    u->scr = draw(256u);
+    u->divisor = draw(16u) == 0u ? 0u : 1u + draw(largest_divisor);
+    u->k = u->divisor == 0u ? 0u : 1u + draw(u->divisor);
+    u->fifo_on = draw(4u) != 0u ? 1u : 0u;
+    u->size64 = draw(4u) == 0u ? 1u : 0u;
+    u->dma = draw(2u);
+    u->trigger_code = draw(4u);
+    u->modem_pins = draw(16u);
+    u->sin = draw(2u);
+    draw_queues(u);
+    draw_frame(u);
+    draw_receiver(u);
+    draw_latches(u);
+    expect("drawn state", u, 1u, uart_well_formed(u));
+}
+
+/* ---- Demand 3 ---- */
+
+static bool flow_holds(const struct uart *u)
+{
+    bool cts = (u->mcr & 0x10u) != 0u ? (u->mcr & 0x02u) != 0u : (u->modem_pins & 1u) != 0u;
+
+    return (u->mcr & 0x20u) != 0u && u->fifo_on != 0u && !cts;
+}
+
+static uint32_t wanted_number(const struct uart *u)
+{
+    bool work = u->tx_count != 0u || u->frame_left != 0u;
+
+    if (work && u->divisor == 0u)
+        return UART_NO_CLOCK;
+    if (u->tx_count != 0u && flow_holds(u))
+        return UART_HELD;
+    return UART_DONE;
+}
+
+/* Run's answer, and its state: that many single ticks. */
+static void check_run(const struct uart *first, uint32_t most, uint32_t wanted)
+{
+    struct uart by_run = *first;
+    struct uart by_ticks = *first;
+    struct uart_value v = uart_run(&by_run, most);
+
+    expect("run's number", first, UART_DONE, v.number);
+    expect("run's ticks", first, wanted, v.value);
+    for (uint32_t i = 0u; i < wanted; i++)
+        expect("tick's number", first, UART_DONE, uart_tick(&by_ticks).number);
+    if (memcmp(&by_run, &by_ticks, sizeof by_run) != 0)
+        fail("run's state", first, 0u, 1u);
+}
+
+/* The transmitter's line now, as the pins show it where they do, else as level says for 0. */
+static uint32_t line_now(const struct uart *u)
+{
+    uint32_t level = uart_level(u, 0u).value;
+
+    if ((u->mcr & 0x10u) == 0u && (u->lcr & 0x40u) == 0u)
+        expect("SOUT", u, level, uart_look(u).pins.sout);
+    return level;
+}
+
+static void check_forecast(const struct uart *first)
+{
+    static uint8_t string[LONGEST_STRING + 1u];
+    struct uart u = *first;
+    struct uart_value forecast = uart_forecast(first);
+    uint32_t number = wanted_number(first);
+    uint32_t p = (uint32_t)put_string(string, first);
+    uint32_t ticks = p == 0u ? 0u : first->k + (p - 1u) * first->divisor;
+    uint32_t beyond = ticks + 1u + draw(50u);
+    uint32_t until_pulse = first->k;
+    uint32_t place = 0u;
+
+    expect("forecast's number", first, number, forecast.number);
+    expect("level's number", first, number, uart_level(first, draw(1000u)).number);
+    if (number != UART_DONE) {
+        expect("refused forecast", first, 0u, forecast.value);
+        check_run(first, 0u, 0u);
+        check_run(first, 300u, 300u);
+        return;
+    }
+    expect("forecast", first, ticks, forecast.value);
+    for (uint32_t t = 0u;; t++) {
+        uint32_t wanted = place < p ? string[place] : 1u;
+        bool empty = u.tx_count == 0u && u.frame_left == 0u;
+
+        expect("level", first, wanted, uart_level(first, t).value);
+        expect("line", first, wanted, line_now(&u));
+        expect("both empty", first, t >= ticks ? 1u : 0u, empty ? 1u : 0u);
+        if (t == beyond)
+            break;
+        expect("tick's number", first, UART_DONE, uart_tick(&u).number);
+        if (first->divisor != 0u && --until_pulse == 0u) {
+            until_pulse = first->divisor;
+            place++;
+        }
+    }
+    expect("level far beyond", first, 1u, uart_level(first, UINT32_MAX).value);
+    if (ticks > 0u)
+        check_run(first, ticks - 1u, ticks - 1u);
+    check_run(first, ticks, ticks);
+    check_run(first, ticks + 1u, ticks);
+    check_run(first, UINT32_MAX, ticks);
+    check_run(first, 0u, 0u);
+}
+
+/* ---- Steps ---- */
+
+static void check_refused(const struct uart *before, const struct uart *after,
+                          struct uart_answer a, uint32_t number)
+{
+    struct uart_answer zero = { 0 };
+
+    zero.number = number;
+    if (memcmp(&a, &zero, sizeof a) != 0)
+        fail("refusal", before, number, a.number);
+    if (memcmp(before, after, sizeof *before) != 0)
+        fail("state after a refusal", before, 0u, 1u);
+}
+
+static void check_refusals(const struct uart *u)
+{
+    struct uart v = *u;
+
+    check_refused(u, &v, uart_read(&v, 8u + draw(1000u)), UART_BAD_ADDRESS);
+    check_refused(u, &v, uart_write(&v, 8u + draw(1000u), 1u), UART_BAD_ADDRESS);
+    check_refused(u, &v, uart_set_sin(&v, 2u + draw(1000u)), UART_BAD_LEVEL);
+    check_refused(u, &v, uart_set_modem(&v, 16u + draw(1000u)), UART_BAD_LEVEL);
+}
+
+static struct uart_answer random_step(struct uart *u)
+{
+    switch (draw(12u)) {
+    case 0:
+        return draw(20u) == 0u ? uart_reset(u) : uart_tick(u);
+    case 1:
+    case 2:
+        return uart_read(u, draw(8u));
+    case 3:
+    case 4:
+    case 5:
+        return uart_write(u, draw(8u), (uint8_t)draw(256u));
+    case 6:
+        return uart_write(u, 0u, (uint8_t)draw(256u));
+    case 7:
+        return uart_set_sin(u, draw(2u));
+    case 8:
+        return uart_set_modem(u, draw(16u));
+    case 9:
+        return uart_ticks(u, draw(200u));
+    default:
+        return uart_tick(u);
+    }
+}
+
+static void check_step(struct uart *u)
+{
+    struct uart before = *u;
+
+    expect("step's number", &before, UART_DONE, random_step(u).number);
+    if (!uart_well_formed(u))
+        fail("state after a step", &before, 1u, 0u);
+}
+
+/* The divisor that a journey's writes leave is often too large for anything to happen. */
+static void speed_up(struct uart *u)
+{
+    if (u->divisor > 3u) {
+        u->divisor = 1u + draw(3u);
+        u->k = 1u + draw(u->divisor);
+    }
+}
+
+int main(void)
+{
+    struct uart u;
+
+    for (uint32_t i = 0u; i < FORECAST_STATES; i++) {
+        draw_state(&u, 5u);
+        check_forecast(&u);
+    }
+    printf("demand 3: %u states as foretold\n", FORECAST_STATES);
+    for (uint32_t i = 0u; i < STEP_STATES; i++) {
+        draw_state(&u, draw(2u) != 0u ? 3u : 65535u);
+        check_refusals(&u);
+        for (uint32_t j = 0u; j < 10u; j++)
+            check_step(&u);
+    }
+    for (uint32_t i = 0u; i < JOURNEYS; i++) {
+        uart_fresh(&u);
+        for (uint32_t j = 0u; j < JOURNEY_STEPS; j++) {
+            check_step(&u);
+            speed_up(&u);
+        }
+    }
+    printf("steps: %u states and %u journeys stay well formed\n", STEP_STATES, JOURNEYS);
+    return EXIT_SUCCESS;
+}
