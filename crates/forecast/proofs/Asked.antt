@@ -7,10 +7,10 @@ use lib.Dec.{ltb, eqb}
 use borrow.Author.Tests.{eqb-false}
 use Rattle.frame.specs.Format.{formatOf, frameLength}
 use Rattle.frame.specs.Forecast.{workLeft, pulsesLeft}
-use Rattle.frame.proofs.Bound.{pulses-bound}
+use Rattle.frame.proofs.Bound.{pulses-bound, ticks-bound}
 use Rattle.device.specs.declared.State.{State}
 use Rattle.device.specs.Ranges.{wellFormed}
-use Rattle.device.specs.Forecast.{pulsesToCome, noClock, heldBack, forecastNumber}
+use Rattle.device.specs.Forecast.{pulsesToCome, ticksToCome, noClock, heldBack, forecastNumber}
 use Rattle.invariant.proofs.Good.{capacity-bounds, left-short, good-of}
 use Rattle.forecast.proofs.Foretold.{answered-of, and-not}
 
@@ -45,6 +45,12 @@ forecast-ranged s e =
       divisor = g .registers .divisor-most;
       pulses = pulses-bound (s .frame .left) (s .tx .count) (formatOf (s .registers .lcr)) left count;
     }
+
+-- T is at most 817,876,800
+pub forecast-most : (s : State) → forecastNumber s ≡ 0 → ticksToCome s ≤ 817876800
+forecast-most s e =
+    let r = forecast-ranged s e in
+    ticks-bound (s .baud .k) (s .baud .divisor) (pulsesToCome s) (r .k) (r .divisor) (r .pulses)
 
 -- with pulses to come the clock runs
 

@@ -248,6 +248,7 @@ fn ticks_to_come(s: State) -> u32
 pub fn forecast(s: State) -> Forecasted
     ensures outcome { λ r. ⌜ r ≡ forecastOf s ⌝ }
     ensures every_tick { λ r. ⌜ (r .number ≡ 0 → (t : ℕ) → Foretold s (r .ticks) t) ⌝ }
+    ensures at_most { λ r. ⌜ r .ticks ≤ 817876800 ⌝ }
 {
     let number = forecast_number(s);
     if number != DONE {

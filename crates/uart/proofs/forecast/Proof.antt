@@ -1,12 +1,13 @@
 -- Number 0 gives the formula's value, of which demand 3 is proved.
 use Rattle.device.specs.Forecast.{forecastNumber, forecastOf}
-use Rattle.forecast.proofs.Asked.{forecast-well}
+use Rattle.forecast.proofs.Asked.{forecast-well, forecast-most}
 use Rattle.forecast.proofs.Foretold.{foretold}
 use Rattle.invariant.proofs.Settled.{Kept}
 use Rattle.queue.proofs.Laws.{length-mapped}
 use mathlib.Core.Path.{_≡_, sym, _∙_}
 use borrow.Author.Tests.{eq-eqb, ne-eqb}
 use borrow.Author.Needs.{needs}
+use native.Mathlib.Omega.{arith}
 use Rattle.uart.proofs.forecast.Statement.{statement}
 use Rattle.uart.proofs.forecast.Tie as tie
 
@@ -22,7 +23,7 @@ returns c =
     let s = c .before .before .args .s in
     let same = c .before .forecast-number .ensures in
     let some : forecastNumber s ≡ 0 → ⊥ = λ e. c .if1 .taken (same ∙ e) in
-    (rw same (simp (ne-eqb _ _ some)), λ e. absurd (c .if1 .taken e))
+    (rw same (simp (ne-eqb _ _ some)), ((λ e. absurd (c .if1 .taken e)), omega arith))
 
 ticks-to-come-requires : tie.Need-ticks-to-come-requires
 ticks-to-come-requires c κs = sym (c .before .forecast-number .ensures) ∙ c .if1 .left
@@ -31,7 +32,7 @@ returns-2 : tie.Need-returns-2
 unfolding forecastOf
 returns-2 c =
     let none = sym (c .before .before .forecast-number .ensures) ∙ c .before .if1 .left in
-    (rw (c .ticks-to-come .ensures) (simp (eq-eqb _ _ none)), λ _ t. rw (c .ticks-to-come .ensures) (foretold _ (kept (c .before .before .before) none) none t))
+    (rw (c .ticks-to-come .ensures) (simp (eq-eqb _ _ none)), ((λ _ t. rw (c .ticks-to-come .ensures) (foretold _ (kept (c .before .before .before) none) none t)), rw (c .ticks-to-come .ensures) (forecast-most (c .before .before .before .args .s) none)))
 
 pub forecast-spec : {M : Type 1} → statement M
 forecast-spec =
