@@ -70,25 +70,29 @@ done s b =
 abbrev pub refused : ℕ → State → Answer
 refused n s = record { number = n; byte = 0; outputs = noOutputs; state = s }
 
+-- reset
 unfoldable pub resetOf : State → Answer
 resetOf s = cond (wellFormed s) (done (resetState s) 0) (refused 1 s)
 
+-- a register read
 unfoldable pub readOf : State → ℕ → Answer
 readOf s a =
     cond (wellFormed s)
     (cond (leb a 7) (done (readRegister s a .state) (readRegister s a .byte)) (refused 2 s))
     (refused 1 s)
 
+-- a register write
 unfoldable pub writeOf : State → ℕ → ℕ → Answer
 writeOf s a b = cond (wellFormed s) (cond (leb a 7) (done (writeRegister s a b) 0) (refused 2 s)) (refused 1 s)
 
+-- SIN at a level
 unfoldable pub sinOf : State → ℕ → Answer
 sinOf s v =
     cond (wellFormed s)
     (cond (leb v 1) (done (withInputs s (record { modem = s .inputs .modem; sin = v })) 0) (refused 3 s))
     (refused 1 s)
 
--- a change of the effective levels counts
+-- modem pins at their levels; a change of the effective levels counts
 unfoldable pub modemOf : State → ℕ → Answer
 modemOf s v =
     cond (wellFormed s)
@@ -97,6 +101,7 @@ modemOf s v =
     (refused 3 s))
     (refused 1 s)
 
+-- one tick
 unfoldable pub tickOf : State → Answer
 tickOf s = cond (wellFormed s) (done (ticked s) 0) (refused 1 s)
 

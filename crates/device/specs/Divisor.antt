@@ -7,6 +7,7 @@ use Rattle.device.specs.State.{withBaud}
 abbrev pub withDivisor : State → ℕ → State
 withDivisor s d = withBaud s (record { divisor = d; k = d })
 
+-- the two bytes of D
 abbrev pub divisorLow : State → ℕ
 divisorLow s = s .baud .divisor % 256
 

@@ -48,13 +48,14 @@ heldBack s = ltb 0 (s .tx .count) && held (s .registers) (s .fifo) (s .inputs)
 unfoldable pub forecastNumber : State → ℕ
 forecastNumber s = cond (wellFormed s) (cond (noClock s) 4 (cond (heldBack s) 5 0)) 1
 
+-- the forecast: T
 unfoldable pub forecastOf : State → Forecasted
 forecastOf s =
     cond (eqb (forecastNumber s) 0)
     (record { number = 0; ticks = ticksToCome s })
     (record { number = forecastNumber s; ticks = 0 })
 
--- the same refusals
+-- the line's level after t ticks; the same refusals
 unfoldable pub levelOf : State → ℕ → Leveled
 levelOf s t =
     cond (eqb (forecastNumber s) 0)
@@ -65,7 +66,7 @@ levelOf s t =
 unfoldable pub usedOf : State → ℕ → ℕ
 usedOf s n = cond (eqb (forecastNumber s) 0) (min n (ticksToCome s)) n
 
--- its state is that many single ticks
+-- run: its state is that many single ticks
 unfoldable pub runOf : State → ℕ → Ran
 runOf s n =
     cond (wellFormed s)

@@ -8,6 +8,7 @@ use Rattle.device.specs.declared.Latches.{Latches}
 use Rattle.device.specs.declared.State.{State}
 use Rattle.device.specs.State.{withLatches}
 
+-- the time-out latch and the idle count as given
 abbrev pub withIdle : Latches → ℕ → ℕ → Latches
 withIdle l t n =
     record { empty = l .empty; overrun = l .overrun; timeout = t; changes = l .changes; hold = l .hold; idle = n }

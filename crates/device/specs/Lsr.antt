@@ -17,6 +17,7 @@ use Rattle.device.specs.Rbr.{oldest}
 unfoldable pub transmitterEmpty : State → Bool
 transmitterEmpty s = eqb (s .tx .count) 0 && eqb (s .frame .left) 0
 
+-- the register, bit by bit
 unfoldable pub lsr : State → ℕ
 lsr s =
     byteOf

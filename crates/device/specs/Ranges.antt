@@ -68,7 +68,7 @@ characterRanges v =
     leb (v .format) 63  -- format 0..63
     ∷ ltb (v .position) (stopPosition (v .format))  -- P is below its stop position
     ∷ ltb (v .samples) (2 ^ min (dataBits (v .format)) (samplesTaken (v .position)))  -- data not yet sampled zero
-    ∷ leb (v .parity) (min (parityBits (v .format)) (samplesTaken (v .position) - dataBits (v .format)))  -- parity the same: none, or 1 sample
+    ∷ leb (v .parity) (min (parityBits (v .format)) (samplesTaken (v .position) - dataBits (v .format)))  -- parity: 0 until its sample
     ∷ []
 
 -- not in a character
@@ -81,7 +81,7 @@ receiveRanges f q v =
     leb (q .count) (capacity f)  -- count within the capacity
     ∷ entryRest q  -- places beyond the count are zero
     ∷ entryFlags q  -- PE, FE, BI 0 or 1
-    ∷ leb (v .phase) 2  -- idle, waiting for mark, in a character
+    ∷ leb (v .phase) 2  -- 0 idle, 1 waiting for mark, 2 in a character
     ∷ cond (eqb (v .phase) 2) (every (characterRanges v)) (every (outsideRanges v))
     ∷ []
 
@@ -90,13 +90,13 @@ receiveRanges f q v =
 -- the latches of the queues and the idle count
 abbrev pub queueLatchRanges : FifoControl → ℕ → ℕ → Latches → List Bool
 queueLatchRanges f m n l =
-    leb (l .empty) 1
-    ∷ implies (on (l .empty)) (eqb m 0)  -- transmit-empty latch only with an empty queue
+    leb (l .empty) 1  -- transmit-empty latch
+    ∷ implies (on (l .empty)) (eqb m 0)  -- only with an empty transmit queue
     ∷ leb (l .overrun) 1  -- OE
-    ∷ leb (l .timeout) 1
-    ∷ implies (on (l .timeout)) (on (f .enabled) && ltb 0 n)  -- time-out latch only with FIFO on and data waiting
+    ∷ leb (l .timeout) 1  -- time-out latch
+    ∷ implies (on (l .timeout)) (on (f .enabled) && ltb 0 n)  -- only with FIFO on and received data waiting
     ∷ leb (l .idle) 769  -- idle count 0..769
-    ∷ implies (not (on (f .enabled)) || eqb n 0) (eqb (l .idle) 0)  -- 0 if the queue is empty or the FIFO off
+    ∷ implies (not (on (f .enabled)) || eqb n 0) (eqb (l .idle) 0)  -- 0 if the receive queue is empty or the FIFO is off
     ∷ []
 
 -- the change bits and RTS hold
@@ -104,8 +104,8 @@ abbrev pub flowLatchRanges : Registers → FifoControl → ℕ → Latches → L
 flowLatchRanges r f n l =
     leb (l .changes) 15  -- four change bits
     ∷ implies (autoflow r f) (not (bit 0 (l .changes)))  -- the CTS change bit is 0 with autoflow on
-    ∷ leb (l .hold) 1
-    ∷ implies (not (autoRts r f)) (eqb (l .hold) 0)  -- hold: 0 without auto-RTS
+    ∷ leb (l .hold) 1  -- RTS hold
+    ∷ implies (not (autoRts r f)) (eqb (l .hold) 0)  -- 0 without auto-RTS
     ∷ implies (autoRts r f && leb (triggerLevel f) n) (eqb (l .hold) 1)  -- 1 at or above the trigger
     ∷ implies (eqb n 0) (eqb (l .hold) 0)  -- 0 when the count is 0
     ∷ []

@@ -11,7 +11,7 @@ use Rattle.device.specs.declared.Reading.{Reading}
 use Rattle.device.specs.declared.State.{State}
 use Rattle.device.specs.State.{withRx, withLatches}
 
--- the oldest received entry; one of zeros where none is queued
+-- the oldest received entry, which stands at place 0
 abbrev pub oldest : EntryQueue → Entry
 oldest q = getD (q .entries) 0 noEntry
 

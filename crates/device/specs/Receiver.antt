@@ -27,11 +27,11 @@ startAt p lcr = record { phase = 2; format = formatOf lcr; samples = 0; parity =
 abbrev pub waiting : Receiver
 waiting = record { phase = 1; format = 0; samples = 0; parity = 0; position = 0 }
 
--- the entry of a character whose stop sample is h: PE where the parity differs, FE where the stop is low, BI where every
--- sample is low
+-- a break: every sample is low, the stop sample h too (the start sample was)
 abbrev pub isBreak : Receiver → ℕ → Bool
 isBreak v h = eqb (v .samples) 0 && (eqb (v .parity) 0 && eqb h 0)
 
+-- the entry of a character whose stop sample is h: PE where the parity differs, FE where the stop is low, BI for a break
 unfoldable pub entryOf : Receiver → ℕ → Entry
 entryOf v h =
     record {
@@ -115,5 +115,6 @@ unfoldable pub accepted : State → Received → State
 accepted s r =
     cond (r .ended) (entered (withReceiver s (r .receiver)) (r .entry)) (withReceiver s (r .receiver))
 
+-- the receiver's part of a pulse
 unfoldable pub received : State → State
 received s = accepted s (reception s)

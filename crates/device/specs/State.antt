@@ -59,6 +59,7 @@ noFrame = record { left = 0; byte = 0; format = 0 }
 abbrev pub idleReceiver : Receiver
 idleReceiver = record { phase = 0; format = 0; samples = 0; parity = 0; position = 0 }
 
+-- no latch is set
 abbrev pub noLatches : Latches
 noLatches = record { empty = 0; overrun = 0; timeout = 0; changes = 0; hold = 0; idle = 0 }
 

@@ -14,6 +14,7 @@ pulsed s =
     let t = transmitted s in
     idled (enters t) (received t)
 
+-- k as given
 abbrev pub withK : State → ℕ → State
 withK s k = withBaud s (record { divisor = s .baud .divisor; k = k })
 

@@ -38,9 +38,11 @@ contents n xs = take n xs
 
 -- The transmit queue.
 
+-- no bytes
 unfoldable pub noBytes : ByteQueue
 noBytes = record { bytes = replicate 64 0; count = 0 }
 
+-- a byte is put into a queue of capacity c
 unfoldable pub putByte : ℕ → ByteQueue → ℕ → BytePut
 putByte c q b =
     record {
@@ -48,9 +50,11 @@ putByte c q b =
       full = isFull c (q .count);
     }
 
+-- the oldest byte is taken
 unfoldable pub takeByte : ByteQueue → ByteQueue
 takeByte q = record { bytes = shifted 0 (q .bytes); count = q .count - 1 }
 
+-- a byte is zero
 abbrev pub zeroByte : ℕ → Bool
 zeroByte b = eqb b 0
 
@@ -60,12 +64,15 @@ byteRest q = allOf zeroByte (drop (q .count) (q .bytes))
 
 -- The receive queue.
 
+-- a place not in use
 abbrev pub noEntry : Entry
 noEntry = record { byte = 0; pe = 0; fe = 0; bi = 0 }
 
+-- no entries
 unfoldable pub noEntries : EntryQueue
 noEntries = record { entries = replicate 64 noEntry; count = 0 }
 
+-- an entry is put into a queue of capacity c
 unfoldable pub putEntry : ℕ → EntryQueue → Entry → EntryPut
 putEntry c q e =
     record {
@@ -73,9 +80,11 @@ putEntry c q e =
       full = isFull c (q .count);
     }
 
+-- the oldest entry is taken
 unfoldable pub takeEntry : EntryQueue → EntryQueue
 takeEntry q = record { entries = shifted noEntry (q .entries); count = q .count - 1 }
 
+-- an entry is zero
 abbrev pub zeroEntry : Entry → Bool
 zeroEntry e = eqb (e .byte) 0 && (eqb (e .pe) 0 && (eqb (e .fe) 0 && eqb (e .bi) 0))
 
