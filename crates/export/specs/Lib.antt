@@ -1,0 +1,2 @@
+-- The layout of the structs.
+pub mod Layout

@@ -1,0 +1,116 @@
+// The calls for programs in C, Rust and other languages, under plain names: `rt staticlib export`
+// makes the library that they link. The structs go by value, and each call has the contract of the
+// call of `uart` that it hands on. clients/uart.h declares the same for C.
+pub mod layout;
+
+use device::Answer;
+use device::Forecasted;
+use device::Leveled;
+use device::Looked;
+use device::Ran;
+use device::State;
+ghost use mathlib.Core.Path.{_≡_};
+ghost use Prim.Native.Nat.{ℕ};
+ghost use Rattle.device.specs.State.{freshOf};
+ghost use Rattle.device.specs.Calls.{resetOf, readOf, writeOf, sinOf, modemOf, tickOf, ticksOf, ticksAnswer, pinsOf};
+ghost use Rattle.device.specs.Transmitter.{line};
+ghost use Rattle.device.specs.Forecast.{forecastOf, levelOf, runOf, Foretold, StopsInTime};
+
+// The fresh state.
+#[no_mangle]
+pub extern "C" fn uart_fresh() -> State
+    ensures { λ r. ⌜ r ≡ freshOf ⌝ }
+{
+    uart::fresh()
+}
+
+// Reset.
+#[no_mangle]
+pub extern "C" fn uart_reset(s: State) -> Answer
+    ensures { λ r. ⌜ r ≡ resetOf s ⌝ }
+{
+    uart::reset(s)
+}
+
+// A register read at an address.
+#[no_mangle]
+pub extern "C" fn uart_read(s: State, address: u8) -> Answer
+    ensures { λ r. ⌜ r ≡ readOf s address ⌝ }
+{
+    uart::read(s, address)
+}
+
+// A register write of a byte at an address.
+#[no_mangle]
+pub extern "C" fn uart_write(s: State, address: u8, byte: u8) -> Answer
+    ensures { λ r. ⌜ r ≡ writeOf s address byte ⌝ }
+{
+    uart::write(s, address, byte)
+}
+
+// The pin SIN at a level.
+#[no_mangle]
+pub extern "C" fn uart_set_sin(s: State, level: u8) -> Answer
+    ensures { λ r. ⌜ r ≡ sinOf s level ⌝ }
+{
+    uart::set_sin(s, level)
+}
+
+// The modem pins CTS, DSR, RI, DCD asserted as bits 0..3 say.
+#[no_mangle]
+pub extern "C" fn uart_set_modem(s: State, levels: u8) -> Answer
+    ensures { λ r. ⌜ r ≡ modemOf s levels ⌝ }
+{
+    uart::set_modem(s, levels)
+}
+
+// One tick of the clock.
+#[no_mangle]
+pub extern "C" fn uart_tick(s: State) -> Answer
+    ensures { λ r. ⌜ r ≡ tickOf s ⌝ }
+{
+    uart::tick(s)
+}
+
+// n ticks of the clock, each on the state that the last left.
+#[no_mangle]
+pub extern "C" fn uart_ticks(s: State, n: u32) -> Answer
+    ensures { λ r. ⌜ r ≡ ticksAnswer s n ⌝ }
+{
+    uart::ticks(s, n)
+}
+
+// The output pins as they are.
+#[no_mangle]
+pub extern "C" fn uart_pins(s: State) -> Looked
+    ensures { λ r. ⌜ r ≡ pinsOf s ⌝ }
+{
+    uart::pins(s)
+}
+
+// The forecast: the ticks until queue and shift register are both empty.
+#[no_mangle]
+pub extern "C" fn uart_forecast(s: State) -> Forecasted
+    ensures outcome { λ r. ⌜ r ≡ forecastOf s ⌝ }
+    ensures every_tick { λ r. ⌜ (r .number ≡ 0 → (t : ℕ) → Foretold s (r .ticks) t) ⌝ }
+{
+    uart::forecast(s)
+}
+
+// The level of the transmitter's line after t ticks.
+#[no_mangle]
+pub extern "C" fn uart_level(s: State, t: u32) -> Leveled
+    ensures outcome { λ r. ⌜ r ≡ levelOf s t ⌝ }
+    ensures ticked { λ r. ⌜ (r .number ≡ 0 → r .level ≡ line (ticksOf t s .frame)) ⌝ }
+{
+    uart::level(s, t)
+}
+
+// At most n ticks, until queue and shift register are both empty.
+#[no_mangle]
+pub extern "C" fn uart_run(s: State, n: u32) -> Ran
+    ensures outcome { λ r. ⌜ r ≡ runOf s n ⌝ }
+    ensures in_time { λ r. ⌜ (r .number ≡ 0 → StopsInTime s n (r .used)) ⌝ }
+{
+    uart::run(s, n)
+}
