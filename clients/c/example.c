@@ -1,0 +1,134 @@
+/*
+ * Sends a message, clears the transmit FIFO in the middle of a character, and prints what left the
+ * line: the character that had begun is finished, as the part finishes it.
+ */
+#include "uart.h"
+
+#include <inttypes.h>
+#include <stdbool.h>
+#include <stdio.h>
+#include <stdlib.h>
+#include <string.h>
+
+#define PULSES_PER_BIT 16 /* and a tick is a pulse: the divisor is 1 */
+#define BITS_PER_FRAME 10 /* start, eight data bits, stop */
+#define MOST_TICKS 4096
+
+static struct uart_state uart;
+
+/* The levels of SOUT, one for each tick. */
+static uint8_t sout[MOST_TICKS];
+static uint32_t ticks;
+
+static struct uart_answer done(struct uart_answer a)
+{
+    if (a.number != UART_DONE) {
+        printf("refused, number %d\n", a.number);
+        exit(EXIT_FAILURE);
+    }
+    uart = a.state;
+    return a;
+}
+
+static void write_register(uint8_t address, uint8_t byte)
+{
+    done(uart_write(uart, address, byte));
+}
+
+static uint8_t read_register(uint8_t address)
+{
+    return done(uart_read(uart, address)).byte;
+}
+
+static void tick(uint32_t n)
+{
+    for (uint32_t i = 0; i < n; i++)
+        sout[ticks++] = done(uart_tick(uart)).outputs.sout;
+}
+
+static uint32_t print_forecast(void)
+{
+    struct uart_forecasted f = uart_forecast(uart);
+
+    printf("forecast: number %d, %" PRIu32 " ticks\n", f.number, f.ticks);
+    return f.ticks;
+}
+
+/* Whether the levels from now on are those that were foretold of the state before them. */
+static bool foretold(struct uart_state before, uint32_t from)
+{
+    for (uint32_t t = 1; from + t <= ticks; t++)
+        if (uart_level(before, t).level != sout[from + t - 1])
+            return false;
+    return true;
+}
+
+/* The characters on the line, each from its start bit, read in the middle of a bit. */
+static void print_line(void)
+{
+    char text[MOST_TICKS / PULSES_PER_BIT];
+    size_t length = 0;
+    uint32_t at = 0;
+
+    while (at + PULSES_PER_BIT * BITS_PER_FRAME <= ticks) {
+        unsigned byte = 0;
+
+        if (sout[at] != 0) {
+            at++;
+            continue;
+        }
+        printf("line: ");
+        for (uint32_t bit = 0; bit < BITS_PER_FRAME; bit++) {
+            uint8_t level = sout[at + PULSES_PER_BIT * bit + PULSES_PER_BIT / 2];
+
+            printf("%s%d", bit == 1 || bit == BITS_PER_FRAME - 1 ? " " : "", level);
+            if (1 <= bit && bit <= 8)
+                byte |= (unsigned)level << (bit - 1);
+        }
+        printf(" is %c\n", (int)byte);
+        text[length++] = (char)byte;
+        at += PULSES_PER_BIT * BITS_PER_FRAME;
+    }
+    printf("left the line: %.*s\n", (int)length, text);
+}
+
+int main(void)
+{
+    const char *message = "HELLO, BEAM";
+    struct uart_state before;
+    uint32_t from;
+    uint32_t left;
+
+    uart = uart_fresh();
+    write_register(UART_LCR, 0x80);
+    write_register(UART_DLL, 1);
+    write_register(UART_FCR, 0x21); /* FIFO on, 64 bytes */
+    write_register(UART_LCR, 0x03); /* eight bits, no parity, one stop bit */
+
+    for (const char *c = message; *c != '\0'; c++)
+        write_register(UART_THR, (uint8_t)*c);
+    printf("queued: %s\n", message);
+    print_forecast();
+
+    tick(400);
+    printf("after %" PRIu32 " ticks the transmit FIFO is cleared\n", ticks);
+    write_register(UART_FCR, 0x05);
+    printf("LSR: %02X\n", read_register(UART_LSR));
+    left = print_forecast();
+
+    before = uart;
+    from = ticks;
+    tick(left - 1);
+    printf("LSR one tick before: %02X\n", read_register(UART_LSR));
+    tick(1);
+    printf("LSR then: %02X\n", read_register(UART_LSR));
+    tick(200);
+    printf("levels as foretold: %s\n", foretold(before, from) ? "yes" : "no");
+    print_line();
+
+    printf("read of register 8: number %d\n", uart_read(uart, 8).number);
+    printf("SIN at 2: number %d\n", uart_set_sin(uart, 2).number);
+    memset(&uart, 0xFF, sizeof uart);
+    printf("pins of a damaged state: number %d\n", uart_pins(uart).number);
+    return EXIT_SUCCESS;
+}

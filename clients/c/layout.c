@@ -1,0 +1,170 @@
+/* The structs of uart.h lie as the library's do, and every bit pattern is a state. */
+#include "uart.h"
+
+#include <stdio.h>
+#include <stdlib.h>
+#include <string.h>
+
+static int wrong;
+
+static void expect(int holds, const char *what)
+{
+    if (!holds) {
+        printf("differs: %s\n", what);
+        wrong = 1;
+    }
+}
+
+/* The field has this number in every byte of it. */
+#define HAS(object, field, number)                                                \
+    do {                                                                          \
+        unsigned char all[sizeof(object).field];                                  \
+        memset(all, (number), sizeof all);                                        \
+        expect(memcmp(&(object).field, all, sizeof all) == 0, #object "." #field); \
+    } while (0)
+
+static void check_state(struct uart_state s)
+{
+    HAS(s, registers.ier, 1);
+    HAS(s, registers.mcr, 2);
+    HAS(s, registers.lcr, 3);
+    HAS(s, registers.scr, 4);
+    HAS(s, baud.divisor, 5);
+    HAS(s, baud.k, 6);
+    HAS(s, fifo.enabled, 7);
+    HAS(s, fifo.size, 8);
+    HAS(s, fifo.dma, 9);
+    HAS(s, fifo.trigger, 10);
+    HAS(s, inputs.modem, 11);
+    HAS(s, inputs.sin, 12);
+    HAS(s, tx.bytes, 13);
+    HAS(s, tx.count, 14);
+    HAS(s, frame.left, 15);
+    HAS(s, frame.byte, 16);
+    HAS(s, frame.format, 17);
+    for (int i = 0; i < UART_PLACES; i++) {
+        HAS(s, rx.entries[i].byte, 18);
+        HAS(s, rx.entries[i].pe, 19);
+        HAS(s, rx.entries[i].fe, 20);
+        HAS(s, rx.entries[i].bi, 21);
+    }
+    HAS(s, rx.count, 22);
+    HAS(s, receiver.phase, 23);
+    HAS(s, receiver.format, 24);
+    HAS(s, receiver.samples, 25);
+    HAS(s, receiver.parity, 26);
+    HAS(s, receiver.position, 27);
+    HAS(s, latches.empty, 28);
+    HAS(s, latches.overrun, 29);
+    HAS(s, latches.timeout, 30);
+    HAS(s, latches.changes, 31);
+    HAS(s, latches.hold, 32);
+    HAS(s, latches.idle, 33);
+}
+
+static void check_outputs(struct uart_outputs o)
+{
+    HAS(o, sout, 36);
+    HAS(o, rts, 37);
+    HAS(o, dtr, 38);
+    HAS(o, out1, 39);
+    HAS(o, out2, 40);
+    HAS(o, intrpt, 41);
+}
+
+static void check_specimens(void)
+{
+    struct uart_answer answer = uart_specimen_answer();
+    struct uart_looked looked = uart_specimen_looked();
+    struct uart_forecasted forecasted = uart_specimen_forecasted();
+    struct uart_leveled leveled = uart_specimen_leveled();
+    struct uart_ran ran = uart_specimen_ran();
+
+    check_state(uart_specimen_state());
+    HAS(answer, number, 34);
+    HAS(answer, byte, 35);
+    check_outputs(answer.outputs);
+    check_state(answer.state);
+    HAS(looked, number, 34);
+    check_outputs(looked.outputs);
+    HAS(forecasted, number, 34);
+    HAS(forecasted, ticks, 35);
+    HAS(leveled, number, 34);
+    HAS(leveled, level, 35);
+    HAS(ran, number, 34);
+    HAS(ran, used, 35);
+    check_state(ran.state);
+}
+
+static void check_sizes(void)
+{
+    expect(uart_size_of_state() == sizeof(struct uart_state), "size of state");
+    expect(uart_size_of_answer() == sizeof(struct uart_answer), "size of answer");
+    expect(uart_size_of_looked() == sizeof(struct uart_looked), "size of looked");
+    expect(uart_size_of_forecasted() == sizeof(struct uart_forecasted), "size of forecasted");
+    expect(uart_size_of_leveled() == sizeof(struct uart_leveled), "size of leveled");
+    expect(uart_size_of_ran() == sizeof(struct uart_ran), "size of ran");
+}
+
+/* A state handed in reaches the library field by field: what it is refused for, and what not. */
+static void check_parameters(void)
+{
+    struct uart_state s = uart_fresh();
+    struct uart_state specimen = uart_specimen_state();
+    struct uart_answer a;
+
+    s.registers.lcr = 0x03;
+    s.baud.divisor = 12;
+    s.baud.k = 5;
+    s.fifo.enabled = 1;
+    s.tx.bytes[0] = 'A';
+    s.tx.bytes[1] = 'B';
+    s.tx.bytes[2] = 'C';
+    s.tx.count = 3;
+    expect(uart_forecast(s).ticks == 5765, "forecast of row 8");
+    s.rx.entries[0].byte = 0x5A;
+    s.rx.entries[0].fe = 1;
+    s.rx.count = 1;
+    s.latches.overrun = 1;
+    s.latches.idle = 7;
+    expect(uart_read(s, UART_LSR).byte == 0x8B, "LSR");
+    expect(uart_read(s, UART_RBR).byte == 0x5A, "RBR");
+    s.rx.entries[63].bi = 1;
+    expect(uart_read(s, UART_LSR).number == UART_MALFORMED, "an entry beyond the count");
+
+    /* A refused state comes back as it was. */
+    a = uart_write(specimen, UART_SCR, 0);
+    expect(a.number == UART_MALFORMED && a.byte == 0, "refusal of the specimen");
+    check_state(a.state);
+}
+
+/* Whatever stands in memory, the call ends, and is refused where it must be. */
+static void check_any_memory(void)
+{
+    struct uart_state s;
+    uint32_t x = 1;
+    unsigned char *bytes = (unsigned char *)&s;
+
+    for (int turn = 0; turn < 10000; turn++) {
+        struct uart_answer a;
+
+        for (size_t i = 0; i < sizeof s; i++) {
+            x = x * 1664525u + 1013904223u;
+            bytes[i] = (unsigned char)(x >> 24);
+        }
+        a = uart_ticks(s, 1000);
+        expect(a.number == UART_MALFORMED, "a state of noise");
+        expect(memcmp(a.state.tx.bytes, s.tx.bytes, sizeof s.tx.bytes) == 0, "noise back");
+        expect(uart_run(s, UINT32_MAX).used == 0, "run of noise");
+    }
+}
+
+int main(void)
+{
+    check_sizes();
+    check_specimens();
+    check_parameters();
+    check_any_memory();
+    puts(wrong ? "layout: differs" : "layout: ok");
+    return wrong ? EXIT_FAILURE : EXIT_SUCCESS;
+}

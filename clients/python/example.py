@@ -1,0 +1,89 @@
+"""Sends a message, clears the transmit FIFO in the middle of a character, and prints what left the
+line: the character that had begun is finished, as the part finishes it."""
+import ctypes
+
+from uart import DLL, FCR, LCR, LSR, THR, Refused, Uart
+
+PULSES_PER_BIT = 16  # and a tick is a pulse: the divisor is 1
+BITS_PER_FRAME = 10  # start, eight data bits, stop
+
+
+def number(call):
+    try:
+        call()
+    except Refused as refusal:
+        return refusal.number
+    return 0
+
+
+def print_forecast(uart):
+    ticks = uart.forecast()
+    print(f"forecast: number 0, {ticks} ticks")
+    return ticks
+
+
+def tick(uart, n, sout):
+    """The levels of SOUT, one for each tick."""
+    for _ in range(n):
+        sout.append(uart.tick().sout)
+
+
+def print_line(sout):
+    """The characters on the line, each from its start bit, read in the middle of a bit."""
+    text = ""
+    at = 0
+    while at + PULSES_PER_BIT * BITS_PER_FRAME <= len(sout):
+        if sout[at]:
+            at += 1
+            continue
+        bits = [sout[at + PULSES_PER_BIT * bit + PULSES_PER_BIT // 2] for bit in range(BITS_PER_FRAME)]
+        character = chr(sum(level << bit for bit, level in enumerate(bits[1:9])))
+        print(f"line: {bits[0]} {''.join(map(str, bits[1:9]))} {bits[9]} is {character}")
+        text += character
+        at += PULSES_PER_BIT * BITS_PER_FRAME
+    print(f"left the line: {text}")
+
+
+def main():
+    message = "HELLO, BEAM"
+    sout = []
+
+    uart = Uart()
+    uart.write(LCR, 0x80)
+    uart.write(DLL, 1)
+    uart.write(FCR, 0x21)  # FIFO on, 64 bytes
+    uart.write(LCR, 0x03)  # eight bits, no parity, one stop bit
+
+    for byte in message.encode():
+        uart.write(THR, byte)
+    print(f"queued: {message}")
+    print_forecast(uart)
+
+    tick(uart, 400, sout)
+    print(f"after {len(sout)} ticks the transmit FIFO is cleared")
+    uart.write(FCR, 0x05)
+    print(f"LSR: {uart.read(LSR):02X}")
+    left = print_forecast(uart)
+
+    before = uart.copy()
+    since = len(sout)
+    tick(uart, left - 1, sout)
+    print(f"LSR one tick before: {uart.read(LSR):02X}")
+    tick(uart, 1, sout)
+    print(f"LSR then: {uart.read(LSR):02X}")
+    tick(uart, 200, sout)
+    foretold = all(before.level(t) == level for t, level in enumerate(sout[since:], 1))
+    print(f"levels as foretold: {'yes' if foretold else 'no'}")
+    print_line(sout)
+
+    print(f"read of register 8: number {number(lambda: uart.read(8))}")
+
+    def raise_sin():
+        uart.sin = 2
+
+    print(f"SIN at 2: number {number(raise_sin)}")
+    ctypes.memset(ctypes.byref(uart.state), 0xFF, ctypes.sizeof(uart.state))
+    print(f"pins of a damaged state: number {number(lambda: uart.pins)}")
+
+
+main()

@@ -1,0 +1,92 @@
+// Sends a message, clears the transmit FIFO in the middle of a character, and prints what left the
+// line: the character that had begun is finished, as the part finishes it.
+use tl16c750::{Refusal, Uart, DLL, FCR, LCR, LSR, THR};
+
+const PULSES_PER_BIT: usize = 16; // and a tick is a pulse: the divisor is 1
+const BITS_PER_FRAME: usize = 10; // start, eight data bits, stop
+
+fn number<T>(answer: Result<T, Refusal>) -> u8 {
+    answer.map_or_else(|refusal| refusal.0, |_| 0)
+}
+
+// The levels of SOUT, one for each tick.
+fn tick(uart: &mut Uart, n: u32, sout: &mut Vec<u8>) -> Result<(), Refusal> {
+    for _ in 0..n {
+        sout.push(uart.tick()?.sout);
+    }
+    Ok(())
+}
+
+fn print_forecast(uart: &Uart) -> u32 {
+    let forecast = uart.forecast();
+    let ticks = forecast.unwrap_or(0);
+    println!("forecast: number {}, {ticks} ticks", number(forecast));
+    ticks
+}
+
+// The characters on the line, each from its start bit, read in the middle of a bit.
+fn print_line(sout: &[u8]) {
+    let mut text = String::new();
+    let mut at = 0;
+    while at + PULSES_PER_BIT * BITS_PER_FRAME <= sout.len() {
+        if sout[at] != 0 {
+            at += 1;
+            continue;
+        }
+        let bits: Vec<u8> = (0..BITS_PER_FRAME)
+            .map(|bit| sout[at + PULSES_PER_BIT * bit + PULSES_PER_BIT / 2])
+            .collect();
+        let data = &bits[1..9];
+        let byte = data.iter().rev().fold(0u8, |byte, bit| byte << 1 | bit);
+        let shown: String = data.iter().map(u8::to_string).collect();
+        println!("line: {} {shown} {} is {}", bits[0], bits[9], byte as char);
+        text.push(byte as char);
+        at += PULSES_PER_BIT * BITS_PER_FRAME;
+    }
+    println!("left the line: {text}");
+}
+
+fn main() -> Result<(), Refusal> {
+    let message = "HELLO, BEAM";
+    let mut sout = Vec::new();
+
+    let mut uart = Uart::fresh();
+    uart.write(LCR, 0x80)?;
+    uart.write(DLL, 1)?;
+    uart.write(FCR, 0x21)?; // FIFO on, 64 bytes
+    uart.write(LCR, 0x03)?; // eight bits, no parity, one stop bit
+
+    for byte in message.bytes() {
+        uart.write(THR, byte)?;
+    }
+    println!("queued: {message}");
+    print_forecast(&uart);
+
+    tick(&mut uart, 400, &mut sout)?;
+    println!("after {} ticks the transmit FIFO is cleared", sout.len());
+    uart.write(FCR, 0x05)?;
+    println!("LSR: {:02X}", uart.read(LSR)?);
+    let left = print_forecast(&uart);
+
+    let before = uart;
+    let from = sout.len();
+    tick(&mut uart, left - 1, &mut sout)?;
+    println!("LSR one tick before: {:02X}", uart.read(LSR)?);
+    tick(&mut uart, 1, &mut sout)?;
+    println!("LSR then: {:02X}", uart.read(LSR)?);
+    tick(&mut uart, 200, &mut sout)?;
+    let foretold = (1..)
+        .zip(&sout[from..])
+        .all(|(t, level)| before.level(t) == Ok(*level));
+    println!(
+        "levels as foretold: {}",
+        if foretold { "yes" } else { "no" }
+    );
+    print_line(&sout);
+
+    println!("read of register 8: number {}", number(uart.read(8)));
+    println!("SIN at 2: number {}", number(uart.set_sin(2)));
+    uart.state.tx.bytes = [0xFF; 64];
+    println!("pins of a damaged state: number {}", number(uart.pins()));
+    Ok(())
+}

@@ -1,0 +1,158 @@
+// The structs lie as the library's do: in its specimens every byte of a field is the field's
+// number, and each size is the library's own.
+use std::mem::size_of;
+use tl16c750::raw::*;
+use tl16c750::{Refusal, Uart, LSR, RBR};
+
+fn four(n: u8) -> u32 {
+    u32::from_ne_bytes([n; 4])
+}
+
+fn state() -> State {
+    State {
+        registers: Registers {
+            ier: 1,
+            mcr: 2,
+            lcr: 3,
+            scr: 4,
+        },
+        baud: Baud {
+            divisor: four(5),
+            k: four(6),
+        },
+        fifo: FifoControl {
+            enabled: 7,
+            size: 8,
+            dma: 9,
+            trigger: 10,
+        },
+        inputs: Inputs { modem: 11, sin: 12 },
+        tx: ByteQueue {
+            bytes: [13; PLACES],
+            count: four(14),
+        },
+        frame: Frame {
+            left: four(15),
+            byte: 16,
+            format: 17,
+        },
+        rx: EntryQueue {
+            entries: [Entry {
+                byte: 18,
+                pe: 19,
+                fe: 20,
+                bi: 21,
+            }; PLACES],
+            count: four(22),
+        },
+        receiver: Receiver {
+            phase: 23,
+            format: 24,
+            samples: 25,
+            parity: 26,
+            position: four(27),
+        },
+        latches: Latches {
+            empty: 28,
+            overrun: 29,
+            timeout: 30,
+            changes: 31,
+            hold: 32,
+            idle: four(33),
+        },
+    }
+}
+
+fn outputs() -> Outputs {
+    Outputs {
+        sout: 36,
+        rts: 37,
+        dtr: 38,
+        out1: 39,
+        out2: 40,
+        intrpt: 41,
+    }
+}
+
+#[test]
+fn fields_lie_as_in_the_specimens() {
+    unsafe {
+        assert_eq!(uart_specimen_state(), state());
+        assert_eq!(
+            uart_specimen_answer(),
+            Answer {
+                number: 34,
+                byte: 35,
+                outputs: outputs(),
+                state: state()
+            }
+        );
+        assert_eq!(
+            uart_specimen_looked(),
+            Looked {
+                number: 34,
+                outputs: outputs()
+            }
+        );
+        assert_eq!(
+            uart_specimen_forecasted(),
+            Forecasted {
+                number: 34,
+                ticks: four(35)
+            }
+        );
+        assert_eq!(
+            uart_specimen_leveled(),
+            Leveled {
+                number: 34,
+                level: 35
+            }
+        );
+        assert_eq!(
+            uart_specimen_ran(),
+            Ran {
+                number: 34,
+                used: four(35),
+                state: state()
+            }
+        );
+    }
+}
+
+#[test]
+fn sizes_are_the_librarys() {
+    unsafe {
+        assert_eq!(uart_size_of_state() as usize, size_of::<State>());
+        assert_eq!(uart_size_of_answer() as usize, size_of::<Answer>());
+        assert_eq!(uart_size_of_looked() as usize, size_of::<Looked>());
+        assert_eq!(uart_size_of_forecasted() as usize, size_of::<Forecasted>());
+        assert_eq!(uart_size_of_leveled() as usize, size_of::<Leveled>());
+        assert_eq!(uart_size_of_ran() as usize, size_of::<Ran>());
+    }
+}
+
+#[test]
+fn a_state_handed_in_arrives() {
+    let mut uart = Uart::fresh();
+    uart.state.registers.lcr = 0x03;
+    uart.state.baud = Baud { divisor: 12, k: 5 };
+    uart.state.fifo.enabled = 1;
+    uart.state.tx.bytes[..3].copy_from_slice(b"ABC");
+    uart.state.tx.count = 3;
+    assert_eq!(uart.forecast(), Ok(5765));
+    uart.state.rx.entries[0] = Entry {
+        byte: 0x5A,
+        pe: 0,
+        fe: 1,
+        bi: 0,
+    };
+    uart.state.rx.count = 1;
+    uart.state.latches.overrun = 1;
+    uart.state.latches.idle = 7;
+    assert_eq!(uart.read(LSR), Ok(0x8B));
+    assert_eq!(uart.read(RBR), Ok(0x5A));
+    uart.state.rx.entries[63].bi = 1;
+    let before = uart;
+    assert_eq!(uart.read(LSR), Err(Refusal::MALFORMED));
+    assert_eq!(uart, before);
+}

@@ -1,0 +1,293 @@
+/*
+ * One TL16C750 UART with its bus, serial line, modem pins and clock.
+ *
+ * Each call takes the state by value and hands back the next one; nothing is kept between calls.
+ * A call that is refused (number above 0) hands its state back as it was, and zeros otherwise.
+ *
+ * Every field is an unsigned number, so every bit pattern of a state is a value: it is well formed
+ * or it is refused with UART_MALFORMED. So whatever memory a caller hands in, every call ends and
+ * answers by number; no caller has to look first. Bytes between fields are not looked at, and come
+ * back as anything.
+ *
+ * Link with target/staticlib/libexport.a, made by `rt staticlib export`.
+ */
+#ifndef UART_H
+#define UART_H
+
+#include <stddef.h>
+#include <stdint.h>
+
+#ifdef __cplusplus
+extern "C" {
+#define UART_STATIC_ASSERT static_assert
+#else
+#define UART_STATIC_ASSERT _Static_assert
+#endif
+
+/* The numbers answered; where two apply, the lower. */
+#define UART_DONE 0
+#define UART_MALFORMED 1   /* the state is not well formed */
+#define UART_BAD_ADDRESS 2 /* a register address above 7 */
+#define UART_BAD_LEVEL 3   /* SIN above 1, or modem pins above 15 */
+#define UART_NO_CLOCK 4    /* forecast, level: work left and divisor 0 */
+#define UART_HELD_BACK 5   /* forecast, level: bytes queued and held by flow control */
+
+/* Register addresses. With LCR bit 7 set, 0 and 1 are the divisor's low and high byte. */
+#define UART_RBR 0 /* read: receive buffer */
+#define UART_THR 0 /* write: transmit holding */
+#define UART_DLL 0
+#define UART_DLM 1
+#define UART_IER 1
+#define UART_IIR 2 /* read */
+#define UART_FCR 2 /* write */
+#define UART_LCR 3
+#define UART_MCR 4
+#define UART_LSR 5
+#define UART_MSR 6
+#define UART_SCR 7
+
+#define UART_PLACES 64 /* of each queue */
+
+/* The registers that keep what is written to them. */
+struct uart_registers {
+    uint8_t ier;
+    uint8_t mcr;
+    uint8_t lcr;
+    uint8_t scr;
+};
+
+/* The baud generator: the divisor, and the ticks to the next pulse. */
+struct uart_baud {
+    uint32_t divisor;
+    uint32_t k;
+};
+
+/* What FCR sets: FIFO on, size bit (1 is 64), DMA bit, trigger code. */
+struct uart_fifo_control {
+    uint8_t enabled;
+    uint8_t size;
+    uint8_t dma;
+    uint8_t trigger;
+};
+
+/* The input pins: CTS, DSR, RI, DCD asserted in bits 0..3; the level of SIN. */
+struct uart_inputs {
+    uint8_t modem;
+    uint8_t sin;
+};
+
+/* The transmit queue: oldest first, places beyond the count zero. */
+struct uart_byte_queue {
+    uint8_t bytes[UART_PLACES];
+    uint32_t count;
+};
+
+/* The transmitter shift register: pulses left of the frame now sent, its byte and format. */
+struct uart_frame {
+    uint32_t left;
+    uint8_t byte;
+    uint8_t format;
+};
+
+/* A received character with its error flags, each 0 or 1. */
+struct uart_entry {
+    uint8_t byte;
+    uint8_t pe;
+    uint8_t fe;
+    uint8_t bi;
+};
+
+/* The receive queue: oldest first, places beyond the count zero. */
+struct uart_entry_queue {
+    struct uart_entry entries[UART_PLACES];
+    uint32_t count;
+};
+
+/* The receiver: 0 idle, 1 waiting for mark, 2 in a character, with what of it is sampled. */
+struct uart_receiver {
+    uint8_t phase;
+    uint8_t format;
+    uint8_t samples;
+    uint8_t parity;
+    uint32_t position;
+};
+
+/* The latches, the change bits of MSR (bits 0..3: CTS, DSR, RI, DCD), RTS hold, the idle count. */
+struct uart_latches {
+    uint8_t empty;
+    uint8_t overrun;
+    uint8_t timeout;
+    uint8_t changes;
+    uint8_t hold;
+    uint32_t idle;
+};
+
+struct uart_state {
+    struct uart_registers registers;
+    struct uart_baud baud;
+    struct uart_fifo_control fifo;
+    struct uart_inputs inputs;
+    struct uart_byte_queue tx;
+    struct uart_frame frame;
+    struct uart_entry_queue rx;
+    struct uart_receiver receiver;
+    struct uart_latches latches;
+};
+
+/* The output pins: SOUT and INTRPT 1 is high; the others 1 is asserted. */
+struct uart_outputs {
+    uint8_t sout;
+    uint8_t rts;
+    uint8_t dtr;
+    uint8_t out1;
+    uint8_t out2;
+    uint8_t intrpt;
+};
+
+/* What a step answers: the byte read, the pins after it, the next state. */
+struct uart_answer {
+    uint8_t number;
+    uint8_t byte;
+    struct uart_outputs outputs;
+    struct uart_state state;
+};
+
+/* What the look at the pins answers. */
+struct uart_looked {
+    uint8_t number;
+    struct uart_outputs outputs;
+};
+
+/* What the forecast answers: the ticks until queue and shift register are both empty. */
+struct uart_forecasted {
+    uint8_t number;
+    uint32_t ticks;
+};
+
+/* What the call for the line's level answers. */
+struct uart_leveled {
+    uint8_t number;
+    uint8_t level;
+};
+
+/* What run answers: the ticks used, and the state after them. */
+struct uart_ran {
+    uint8_t number;
+    uint32_t used;
+    struct uart_state state;
+};
+
+/* The fresh state. */
+struct uart_state uart_fresh(void);
+
+/* The steps. */
+struct uart_answer uart_reset(struct uart_state s);
+struct uart_answer uart_read(struct uart_state s, uint8_t address);
+struct uart_answer uart_write(struct uart_state s, uint8_t address, uint8_t byte);
+struct uart_answer uart_set_sin(struct uart_state s, uint8_t level);
+struct uart_answer uart_set_modem(struct uart_state s, uint8_t levels);
+struct uart_answer uart_tick(struct uart_state s);
+struct uart_answer uart_ticks(struct uart_state s, uint32_t n); /* n single ticks */
+
+/* The pins as they are. */
+struct uart_looked uart_pins(struct uart_state s);
+
+/* The ticks until the transmitter is empty, and the level of its line after t of them. */
+struct uart_forecasted uart_forecast(struct uart_state s);
+struct uart_leveled uart_level(struct uart_state s, uint32_t t);
+
+/* At most n ticks, until the transmitter is empty. */
+struct uart_ran uart_run(struct uart_state s, uint32_t n);
+
+/*
+ * The library's own layout: the size of each struct, and a specimen of each in which every byte of
+ * a field is the field's number. The state has fields 1..33 in the order above (an entry's are
+ * 18..21); elsewhere the number answered is 34, the field after it 35, the output pins 36..41.
+ */
+uint32_t uart_size_of_state(void);
+uint32_t uart_size_of_answer(void);
+uint32_t uart_size_of_looked(void);
+uint32_t uart_size_of_forecasted(void);
+uint32_t uart_size_of_leveled(void);
+uint32_t uart_size_of_ran(void);
+struct uart_state uart_specimen_state(void);
+struct uart_answer uart_specimen_answer(void);
+struct uart_looked uart_specimen_looked(void);
+struct uart_forecasted uart_specimen_forecasted(void);
+struct uart_leveled uart_specimen_leveled(void);
+struct uart_ran uart_specimen_ran(void);
+
+#define UART_AT(type, field, place) \
+    UART_STATIC_ASSERT(offsetof(struct type, field) == (place), #type "." #field)
+
+UART_STATIC_ASSERT(sizeof(struct uart_state) == 376, "uart_state");
+UART_AT(uart_state, registers.ier, 0);
+UART_AT(uart_state, registers.mcr, 1);
+UART_AT(uart_state, registers.lcr, 2);
+UART_AT(uart_state, registers.scr, 3);
+UART_AT(uart_state, baud.divisor, 4);
+UART_AT(uart_state, baud.k, 8);
+UART_AT(uart_state, fifo.enabled, 12);
+UART_AT(uart_state, fifo.size, 13);
+UART_AT(uart_state, fifo.dma, 14);
+UART_AT(uart_state, fifo.trigger, 15);
+UART_AT(uart_state, inputs.modem, 16);
+UART_AT(uart_state, inputs.sin, 17);
+UART_AT(uart_state, tx.bytes, 20);
+UART_AT(uart_state, tx.count, 84);
+UART_AT(uart_state, frame.left, 88);
+UART_AT(uart_state, frame.byte, 92);
+UART_AT(uart_state, frame.format, 93);
+UART_AT(uart_state, rx.entries, 96);
+UART_AT(uart_state, rx.count, 352);
+UART_AT(uart_state, receiver.phase, 356);
+UART_AT(uart_state, receiver.format, 357);
+UART_AT(uart_state, receiver.samples, 358);
+UART_AT(uart_state, receiver.parity, 359);
+UART_AT(uart_state, receiver.position, 360);
+UART_AT(uart_state, latches.empty, 364);
+UART_AT(uart_state, latches.overrun, 365);
+UART_AT(uart_state, latches.timeout, 366);
+UART_AT(uart_state, latches.changes, 367);
+UART_AT(uart_state, latches.hold, 368);
+UART_AT(uart_state, latches.idle, 372);
+
+UART_STATIC_ASSERT(sizeof(struct uart_entry) == 4, "uart_entry");
+UART_AT(uart_entry, byte, 0);
+UART_AT(uart_entry, pe, 1);
+UART_AT(uart_entry, fe, 2);
+UART_AT(uart_entry, bi, 3);
+
+UART_STATIC_ASSERT(sizeof(struct uart_answer) == 384, "uart_answer");
+UART_AT(uart_answer, number, 0);
+UART_AT(uart_answer, byte, 1);
+UART_AT(uart_answer, outputs.sout, 2);
+UART_AT(uart_answer, outputs.rts, 3);
+UART_AT(uart_answer, outputs.dtr, 4);
+UART_AT(uart_answer, outputs.out1, 5);
+UART_AT(uart_answer, outputs.out2, 6);
+UART_AT(uart_answer, outputs.intrpt, 7);
+UART_AT(uart_answer, state, 8);
+
+UART_STATIC_ASSERT(sizeof(struct uart_looked) == 7, "uart_looked");
+UART_AT(uart_looked, number, 0);
+UART_AT(uart_looked, outputs, 1);
+
+UART_STATIC_ASSERT(sizeof(struct uart_forecasted) == 8, "uart_forecasted");
+UART_AT(uart_forecasted, number, 0);
+UART_AT(uart_forecasted, ticks, 4);
+
+UART_STATIC_ASSERT(sizeof(struct uart_leveled) == 2, "uart_leveled");
+UART_AT(uart_leveled, number, 0);
+UART_AT(uart_leveled, level, 1);
+
+UART_STATIC_ASSERT(sizeof(struct uart_ran) == 384, "uart_ran");
+UART_AT(uart_ran, number, 0);
+UART_AT(uart_ran, used, 4);
+UART_AT(uart_ran, state, 8);
+
+#ifdef __cplusplus
+}
+#endif
+
+#endif
