@@ -1,0 +1,146 @@
+/*
+ * The work that both models are given. DEVICE names the header that adapts one of them.
+ * A line for each case: its name, nanoseconds for each call or tick, and a sum over every answer
+ * and the 348 numbers of the state at the end, by which the two are held against each other.
+ */
+#define _POSIX_C_SOURCE 200809L
+
+#include <stdint.h>
+#include <stdio.h>
+#include <time.h>
+
+#include DEVICE
+
+#define PLACES 348
+
+static uint32_t sum;
+
+static void add(uint32_t x)
+{
+    sum = (sum ^ x) * 16777619u;
+}
+
+static double seconds(void)
+{
+    struct timespec t;
+
+    clock_gettime(CLOCK_PROCESS_CPUTIME_ID, &t);
+    return (double)t.tv_sec + (double)t.tv_nsec * 1e-9;
+}
+
+static void report(const char *name, double start, double units, const struct device *d)
+{
+    double took = seconds() - start;
+    uint32_t places[PLACES];
+
+    device_places(d, places);
+    for (int i = 0; i < PLACES; i++)
+        add(places[i]);
+    printf("%s\t%.3f\t%08x\n", name, took / units * 1e9, sum);
+    sum = 0;
+}
+
+/* FIFO of 64 bytes, eight bits and no parity, with this divisor, MCR and bytes queued. */
+static void prepare(struct device *d, uint32_t divisor, uint8_t mcr, int bytes)
+{
+    device_fresh(d);
+    device_write(d, 3, 0x80);
+    device_write(d, 0, (uint8_t)(divisor & 0xFF));
+    device_write(d, 1, (uint8_t)(divisor >> 8));
+    device_write(d, 2, 0xE1);
+    device_write(d, 3, 0x03);
+    device_write(d, 4, mcr);
+    device_write(d, 1, 0x0F);
+    for (int i = 0; i < bytes; i++)
+        device_write(d, 0, (uint8_t)(i * 37 + 11));
+}
+
+/* Single calls, on a state with 40 bytes queued and some received. */
+static void single_calls(void)
+{
+    static const uint8_t reads[] = { 5, 2, 6, 3 };
+    static const uint8_t writes[] = { 7, 1, 4, 0 };
+    enum { CALLS = 200000 };
+    struct device d;
+    double start;
+
+    prepare(&d, 12, 0x10, 60);
+    device_ticks(&d, 40000);
+    start = seconds();
+    for (int i = 0; i < CALLS; i++)
+        add(device_read(&d, reads[i % 4]));
+    report("read", start, CALLS, &d);
+
+    start = seconds();
+    for (int i = 0; i < CALLS; i++)
+        add(device_write(&d, writes[i % 4], (uint8_t)(i & 0x0F)));
+    report("write", start, CALLS, &d);
+
+    start = seconds();
+    for (int i = 0; i < CALLS; i++)
+        add(device_tick(&d));
+    report("tick", start, CALLS, &d);
+
+    start = seconds();
+    for (int i = 0; i < CALLS; i++)
+        add(device_pins(&d));
+    report("pins", start, CALLS, &d);
+
+    prepare(&d, 12, 0x00, 64);
+    start = seconds();
+    for (int i = 0; i < CALLS; i++)
+        add(device_forecast(&d));
+    report("forecast, 64 bytes queued", start, CALLS, &d);
+
+    start = seconds();
+    for (int i = 0; i < CALLS; i++)
+        add(device_level(&d, (uint32_t)i));
+    report("level, 64 bytes queued", start, CALLS, &d);
+}
+
+/* Run from the same state again and again, at most n ticks each, `ticks` of them in all. */
+static void runs(const char *name, uint32_t divisor, uint8_t mcr, int bytes, uint32_t n, double ticks)
+{
+    struct device first;
+    struct device d;
+    double used = 0;
+    double start;
+
+    prepare(&first, divisor, mcr, bytes);
+    start = seconds();
+    while (used < ticks) {
+        uint32_t x;
+
+        d = first;
+        x = device_run(&d, n);
+        add(x);
+        used += x;
+    }
+    report(name, start, used, &d);
+}
+
+static void idle(const char *name, uint32_t divisor, uint32_t n)
+{
+    struct device d;
+    double start;
+
+    prepare(&d, divisor, 0x00, 0);
+    start = seconds();
+    add(device_ticks(&d, n));
+    report(name, start, n, &d);
+}
+
+int main(void)
+{
+    single_calls();
+    runs("run, divisor 1, sending", 1, 0x00, 64, UINT32_MAX, 1e7);
+    runs("run, divisor 1, loopback", 1, 0x10, 64, UINT32_MAX, 1e7);
+    runs("run, divisor 1, held", 1, 0x20, 64, 1000000, 1e7);
+    idle("ticks, divisor 1, idle", 1, 10000000);
+    runs("run, divisor 12, sending", 12, 0x00, 64, UINT32_MAX, 2e7);
+    runs("run, divisor 12, loopback", 12, 0x10, 64, UINT32_MAX, 2e7);
+    idle("ticks, divisor 12, idle", 12, 20000000);
+    runs("run, divisor 65535, sending", 65535, 0x00, 64, 20000000, 2e7);
+    runs("run, divisor 65535, loopback", 65535, 0x10, 64, 20000000, 2e7);
+    return 0;
+}
