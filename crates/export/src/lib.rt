@@ -10,7 +10,7 @@ use device::Looked;
 use device::Ran;
 use device::State;
 ghost use mathlib.Core.Path.{_≡_};
-ghost use Prim.Native.Nat.{ℕ};
+ghost use Prim.Native.Nat.{ℕ, _≤_};
 ghost use Rattle.device.specs.State.{freshOf};
 ghost use Rattle.device.specs.Calls.{resetOf, readOf, writeOf, sinOf, modemOf, tickOf, ticksOf, ticksAnswer, pinsOf};
 ghost use Rattle.device.specs.Transmitter.{line};
@@ -93,6 +93,7 @@ pub extern "C" fn uart_pins(s: State) -> Looked
 pub extern "C" fn uart_forecast(s: State) -> Forecasted
     ensures outcome { λ r. ⌜ r ≡ forecastOf s ⌝ }
     ensures every_tick { λ r. ⌜ (r .number ≡ 0 → (t : ℕ) → Foretold s (r .ticks) t) ⌝ }
+    ensures at_most { λ r. ⌜ r .ticks ≤ 817876800 ⌝ }
 {
     uart::forecast(s)
 }
