@@ -1,11 +1,11 @@
 -- The loops over a queue's places, over the element, the filler and the number of places: for each a record of what holds
 -- at place i, what a turn does and what the loop comes to.
 use Prim.Native.Nat.{ℕ, suc, _+_, _-_, _≤_, _<_, min}
-use mathlib.Core.Path.{_≡_, sym, ap, _∙_}
-use mathlib.Core.Bool.{Bool, true, false}
+use mathlib.Core.Path.{_≡_, refl, sym, ap, _∙_}
+use mathlib.Core.Bool.{Bool, true, false, _&&_}
 use mathlib.Core.List.{List, [], _∷_, _++_, map}
-use lib.ListN.{length, getD, take, drop, set, replicate, length-take, length-drop, length-map, drop-of-length-le}
-use lib.Seq.{drop-cons, take-suc, set-at, append-snoc, getD-drop, getD-take, length-take-le, take-all}
+use lib.ListN.{length, getD, take, drop, set, length-take, length-drop, length-map, drop-of-length-le}
+use lib.Seq.{drop-cons, take-suc, set-at, append-snoc, getD-append-add, getD-drop, getD-take, length-take-le, take-all}
 use native.Mathlib.Numerals.{add-one, one-add}
 use native.Mathlib.Omega.{arith}
 use Rattle.flag.specs.Flag.{allOf, anyOf}
@@ -19,27 +19,30 @@ length-mapped f xs n e = sym (length-map xs f) ∙ e
 drop-at : {A : Type 0} (xs : List A) (i : ℕ) (d : A) → i < length xs → drop i xs ≡ getD xs i d ∷ drop (i + 1) xs
 drop-at xs i d h = rw (add-one, drop-cons xs i d)
 
--- Testing all: the test of the n places xs, from place i on, gives b.
-pub record Testing {A : Type 0} (p : A → Bool) (n : ℕ) (xs : List A) (b : Bool) (i : ℕ) : Type 0 where
+-- one test more, the others after it
+and-assoc : (a b c : Bool) → ((a && b) && c) ≡ (a && (b && c))
+and-assoc true b c = refl
+and-assoc false b c = refl
+
+and-true : (a : Bool) → (a && true) ≡ a
+and-true true = refl
+and-true false = refl
+
+-- Testing all: the test of the n places xs gives b, where a is that of those already seen, and the others stand from place i on.
+pub record Testing {A : Type 0} (p : A → Bool) (n : ℕ) (xs : List A) (b a : Bool) (i : ℕ) : Type 0 where
   pub long : length xs ≡ n
-  pub same : allOf p (drop i xs) ≡ b
+  pub same : (a && allOf p (drop i xs)) ≡ b
 
-module _ {A : Type 0} {p : A → Bool} {n : ℕ} {xs : List A} {b : Bool} {i : ℕ} where
-  test-at : (d : A) → Testing p n xs b i → i < n → allOf p (getD xs i d ∷ drop (i + 1) xs) ≡ b
-  test-at d w h =
+module _ {A : Type 0} {p : A → Bool} {n : ℕ} {xs : List A} {b a : Bool} {i : ℕ} where
+  pub test-turns : (d : A) → Testing p n xs b a i → i < n → Testing p n xs b (a && p (getD xs i d)) (i + 1)
+  test-turns d w h =
       let k : i < length xs = omega arith in
-      rw (drop-at xs i d k) at (w .same)
+      record { long = w .long; same = and-assoc a (p (getD xs i d)) (allOf p (drop (i + 1) xs)) ∙ rw (drop-at xs i d k) at (w .same) }
 
-  pub test-turns : (d : A) → Testing p n xs b i → i < n → p (getD xs i d) ≡ true → Testing p n xs b (i + 1)
-  test-turns d w h t = record { long = w .long; same = simp t at (test-at d w h) }
-
-  pub test-fails : (d : A) → Testing p n xs b i → i < n → p (getD xs i d) ≡ false → false ≡ b
-  test-fails d w h t = simp t at (test-at d w h)
-
-  pub test-ends : Testing p n xs b i → n ≤ i → true ≡ b
+  pub test-ends : Testing p n xs b a i → n ≤ i → a ≡ b
   test-ends w h =
       let k : length xs ≤ i = omega arith in
-      rw (drop-of-length-le xs k) at (w .same)
+      sym (and-true a) ∙ rw (drop-of-length-le xs k) at (w .same)
 
 -- Finding one: the search of the m that are queued in the n places xs, from place i on, gives b.
 pub record Finding {A : Type 0} (p : A → Bool) (n m : ℕ) (xs : List A) (b : Bool) (i : ℕ) : Type 0 where
@@ -63,35 +66,53 @@ module _ {A : Type 0} {p : A → Bool} {n m : ℕ} {xs : List A} {b : Bool} {i :
       let k : length (contents m xs) ≤ i = simp length-take (omega arith) in
       rw (drop-of-length-le (contents m xs) k) at (w .same)
 
--- Shifting: of the n places ys the first i have what stands one place further in xs, the others the filler.
-pub record Shifting {A : Type 0} (z : A) (n : ℕ) (xs ys : List A) (i : ℕ) : Type 0 where
+-- Shifting: of the n places ys the first i have what stands one place further in xs, the others what stands there in xs.
+pub record Shifting {A : Type 0} (n : ℕ) (xs ys : List A) (i : ℕ) : Type 0 where
   pub long : length xs ≡ n
   pub most : i < n
-  pub so-far : ys ≡ take i (drop 1 xs) ++ replicate (n - i) z
+  pub so-far : ys ≡ take i (drop 1 xs) ++ drop i xs
 
-module _ {A : Type 0} {z : A} {n : ℕ} {xs ys : List A} {i : ℕ} where
-  pub shift-turns : Shifting z n xs ys i → i + 1 < n → Shifting z n xs (set ys i (getD xs (i + 1) z)) (i + 1)
-  shift-turns w h =
+module _ {A : Type 0} {n : ℕ} {xs ys : List A} {i : ℕ} where
+  -- the place that is filled next, after those that are
+  shift-at : (z : A) → Shifting n xs ys i → ys ≡ take i (drop 1 xs) ++ getD xs i z ∷ drop (i + 1) xs
+  shift-at z w =
+      let k : i < length xs = omega (arith, w .most, w .long) in
+      w .so-far ∙ ap (λ (r : List A). take i (drop 1 xs) ++ r) (drop-at xs i z k)
+
+  filled : Shifting n xs ys i → length (take i (drop 1 xs)) ≡ i
+  filled w =
+      let m : i ≤ length (drop 1 xs) = simp length-drop (omega (arith, w .most, w .long)) in
+      length-take-le i (drop 1 xs) m
+
+  pub shift-turns : (z : A) → Shifting n xs ys i → i + 1 < n → Shifting n xs (set ys i (getD ys (i + 1) z)) (i + 1)
+  shift-turns z w h =
       let s : List A = drop 1 xs in
       let v : A = getD xs (i + 1) z in
-      let rest : List A = replicate (n - (i + 1)) z in
-      let k : n - i ≡ suc (n - (i + 1)) = omega arith in
-      let m : i < length s = simp length-drop (omega arith) in
+      let rest : List A = drop (i + 1) xs in
+      let m : i < length s = simp length-drop (omega (arith, w .long)) in
       let e : getD s i z ≡ v = getD-drop 1 xs i z ∙ simp (add-one, one-add) in
       let t : take (i + 1) s ≡ take i s ++ (v ∷ []) = rw (← e, add-one) (take-suc s i z m) in
+      let next : getD ys (i + 1) z ≡ v =
+      ap (λ (r : List A). getD r (i + 1) z) (w .so-far)
+      ∙ ap (λ (j : ℕ). getD (take i s ++ drop i xs) (j + 1) z) (sym (filled w))
+      ∙ getD-append-add (take i s) (drop i xs) 1 z
+      ∙ getD-drop i xs 1 z in
       record {
         long = w .long;
         most = h;
         so-far =
-            ap (λ (r : List A). set r i v) (w .so-far ∙ ap (λ (j : ℕ). take i s ++ replicate j z) k)
-            ∙ set-at (take i s) z rest v i (length-take-le i s (omega arith))
+            ap (λ (a : A). set ys i a) next
+            ∙ ap (λ (r : List A). set r i v) (shift-at z w)
+            ∙ set-at (take i s) (getD xs i z) rest v i (filled w)
             ∙ sym (append-snoc (take i s) v rest)
             ∙ ap (λ (r : List A). r ++ rest) (sym t);
       }
 
-  pub shift-ends : Shifting z n xs ys i → n ≤ i + 1 → ys ≡ shifted z xs
+  pub shift-ends : (z : A) → Shifting n xs ys i → n ≡ i + 1 → set ys i z ≡ shifted z xs
   unfolding shifted
-  shift-ends w h =
-      let m : length (drop 1 xs) ≤ i = simp length-drop (omega arith) in
-      let k : n - i ≡ 1 = omega (arith, w .most) in
-      w .so-far ∙ rw (take-all i (drop 1 xs) m, k)
+  shift-ends z w h =
+      let m : length (drop 1 xs) ≤ i = simp length-drop (omega (arith, w .long)) in
+      let k : length xs ≤ i + 1 = omega (arith, w .long) in
+      ap (λ (r : List A). set r i z) (shift-at z w)
+      ∙ set-at (take i (drop 1 xs)) (getD xs i z) (drop (i + 1) xs) z i (filled w)
+      ∙ rw (take-all i (drop 1 xs) m, drop-of-length-le xs k)

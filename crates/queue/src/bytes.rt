@@ -50,12 +50,13 @@ pub fn put(q: ByteQueue, capacity: u32, b: u8) -> BytePut
 fn shift(bytes: [u8; 64]) -> [u8; 64]
     ensures { λ r. ⌜ r ≡ shifted 0 bytes ⌝ }
 {
-    let mut next = [0u8; 64];
+    let mut next = bytes;
     let mut i: usize = 0;
     while i < PLACES - 1 {
-        next[i] = bytes[i + 1];
+        next[i] = next[i + 1];
         i += 1;
     }
+    next[63] = 0;
     next
 }
 
@@ -76,13 +77,11 @@ pub fn take(q: ByteQueue) -> ByteQueue
 pub fn rest_is_zero(q: ByteQueue) -> bool
     ensures { λ r. ⌜ r ≡ byteRest q ⌝ }
 {
-    let bytes = q.bytes;
+    let mut zero = true;
     let mut i = q.count as usize;
     while i < PLACES {
-        if bytes[i] != 0 {
-            return false;
-        }
+        zero = flag::both(zero, q.bytes[i] == 0);
         i += 1;
     }
-    true
+    zero
 }

@@ -65,13 +65,14 @@ fn shift(entries: [Entry; 64]) -> [Entry; 64]
     ensures { λ r. ⌜ r ≡ shifted noEntry entries ⌝ }
 {
     let e = none();
-    let mut next = [e; 64];
+    let mut next = entries;
     let mut i: usize = 0;
     while i < PLACES - 1 {
-        let x = entries[i + 1];
+        let x = next[i + 1];
         next[i] = x;
         i += 1;
     }
+    next[63] = e;
     next
 }
 
@@ -134,32 +135,28 @@ pub fn has_error(e: Entry) -> bool
 pub fn rest_is_zero(q: EntryQueue) -> bool
     ensures { λ r. ⌜ r ≡ entryRest q ⌝ }
 {
-    let entries = q.entries;
+    let mut zero = true;
     let mut i = q.count as usize;
     while i < PLACES {
-        let e = entries[i];
-        if !is_zero(e) {
-            return false;
-        }
+        let e = q.entries[i];
+        zero = flag::both(zero, is_zero(e));
         i += 1;
     }
-    true
+    zero
 }
 
 // Whether the flags of every entry are each 0 or 1.
 pub fn flags_are_bits(q: EntryQueue) -> bool
     ensures { λ r. ⌜ r ≡ entryFlags q ⌝ }
 {
-    let entries = q.entries;
+    let mut bits = true;
     let mut i: usize = 0;
     while i < PLACES {
-        let e = entries[i];
-        if !flags_in_range(e) {
-            return false;
-        }
+        let e = q.entries[i];
+        bits = flag::both(bits, flags_in_range(e));
         i += 1;
     }
-    true
+    bits
 }
 
 // Whether some entry in the queue has an error.

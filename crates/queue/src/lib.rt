@@ -2,7 +2,8 @@
 //
 // Each is a struct by value: an array of 64 places and the count in use, oldest at index 0, places
 // beyond the count zero. The contracts cite `specs/Queue.antt`; `proofs/Contents.antt` has the facts
-// about what is queued, over lists, once for both.
+// about what is queued, over lists, once for both. The tests of every place have no early way out, so
+// that the compiler can look at many places at once.
 pub mod bytes;
 pub mod entries;
 

@@ -1,37 +1,31 @@
--- The test of the places from `i` on is that of all beyond the count, until a place fails it or none is left.
+-- The test of the places beyond the count is that of those seen and that of those from `i` on, and in the end that of those seen.
 use Prim.Native.Nat.{_-_}
-use mathlib.Core.Path.{refl, sym, _∙_}
+use mathlib.Core.Path.{refl}
 use lib.ListN.{drop}
 use native.Mathlib.Omega.{arith}
 use borrow.Author.Needs.{needs}
-use borrow.Author.Tests.{not-true, not-false}
 use Rattle.flag.specs.Flag.{allOf}
 use Rattle.queue.specs.Queue.{entryRest, noEntry, zeroEntry}
-use Rattle.queue.proofs.Laws.{length-mapped, Testing, test-turns, test-fails, test-ends}
+use Rattle.queue.proofs.Laws.{length-mapped, Testing, test-turns, test-ends}
 use Rattle.queue.proofs.entries.rest_is_zero.Statement.{statement}
 use Rattle.queue.proofs.entries.rest_is_zero.Tie as tie
 
 abbrev Inv-loop : tie.InvT-loop
-Inv-loop entries i₀ i = Testing zeroEntry 64 entries (allOf zeroEntry (drop i₀ entries)) i
+Inv-loop q zero₀ i₀ zero i = Testing zeroEntry 64 (q .entries) (allOf zeroEntry (drop i₀ (q .entries))) zero i
 
 abbrev μ-loop : tie.MeasureT-loop
-μ-loop entries i₀ i = 64 - i
+μ-loop q zero₀ i₀ zero i = 64 - i
 
 loop-holds : tie.Need-loop-holds Inv-loop μ-loop
 loop-holds c = record { long = search (length-mapped, needs); same = refl }
 
-returns : tie.Need-returns Inv-loop μ-loop
-unfolding entryRest
-returns c =
-    test-fails noEntry (c .before .before .before .before .loop .inv) (omega arith) (sym (c .before .is-zero .ensures) ∙ not-true _ (c .if1 .taken))
-
 loop-again : tie.Need-loop-again Inv-loop μ-loop
 loop-again c =
-    test-turns noEntry (c .before .before .before .before .loop .inv) (omega arith) (sym (c .before .is-zero .ensures) ∙ not-false _ (c .if1 .left))
+    rw (c .both .ensures, c .before .is-zero .ensures) (test-turns noEntry (c .before .before .before .before .loop .inv) (omega arith))
 
-returns-2 : tie.Need-returns-2 Inv-loop μ-loop
+returns : tie.Need-returns Inv-loop μ-loop
 unfolding entryRest
-returns-2 c = test-ends (c .before .loop .inv) (omega arith)
+returns c = test-ends (c .before .loop .inv) (omega arith)
 
 pub rest-is-zero-spec : {M : Type 1} → statement M
 rest-is-zero-spec =
@@ -44,8 +38,8 @@ rest-is-zero-spec =
     (λ c. search needs)
     (λ c. search needs)
     (λ c κs. search needs)
-    returns
+    (λ c κs. search needs)
     (λ c. search needs)
     (λ c. search needs)
     loop-again
-    returns-2)
+    returns)

@@ -1,28 +1,31 @@
--- Each turn fills the next place with what stands one place further; the last one keeps the filler.
-use Prim.Native.Nat.{_-_}
-use mathlib.Core.Path.{ap}
-use lib.ListN.{replicate}
+-- Each turn fills the next place with what stands one place further; the last one becomes zero.
+use Prim.Native.Nat.{ℕ, _-_}
+use mathlib.Core.Path.{_≡_, refl, ap, _∙_}
+use lib.ListN.{set}
 use native.Mathlib.Omega.{arith}
 use borrow.Author.Needs.{needs}
 use Rattle.queue.specs.Queue.{noEntry}
-use Rattle.queue.proofs.Laws.{Shifting, shift-turns, shift-ends}
+use Rattle.queue.proofs.Laws.{length-mapped, Shifting, shift-turns, shift-ends}
 use Rattle.queue.proofs.entries.shift.Statement.{statement}
 use Rattle.queue.proofs.entries.shift.Tie as tie
 
 abbrev Inv-loop : tie.InvT-loop
-Inv-loop entries next₀ i₀ next i = Shifting noEntry 64 entries next i
+Inv-loop e next₀ i₀ next i = Shifting 64 next₀ next i
 
 abbrev μ-loop : tie.MeasureT-loop
-μ-loop entries next₀ i₀ next i = 64 - i
+μ-loop e next₀ i₀ next i = 64 - i
 
 loop-holds : tie.Need-loop-holds Inv-loop μ-loop
-loop-holds c = record { long = search needs; most = omega arith; so-far = ap (λ e. replicate 64 e) (c .none .ensures) }
+loop-holds c = record { long = search (length-mapped, needs); most = omega arith; so-far = refl }
 
 loop-again : tie.Need-loop-again Inv-loop μ-loop
-loop-again c = shift-turns (c .before .before .loop .inv) (omega arith)
+loop-again c = shift-turns noEntry (c .before .before .loop .inv) (omega arith)
 
 returns : tie.Need-returns Inv-loop μ-loop
-returns c = shift-ends (c .before .loop .inv) (omega arith)
+returns c =
+    let k = c .before .loop in
+    let e : 63 ≡ k .i = omega (arith, k .inv .most) in
+    rw (c .before .before .none .ensures) (ap (λ (j : ℕ). set (k .next) j noEntry) e ∙ shift-ends noEntry (k .inv) (omega (arith, e)))
 
 pub shift-spec : {M : Type 1} → statement M
 shift-spec =
@@ -41,4 +44,5 @@ shift-spec =
     (λ c. search needs)
     (λ c. search needs)
     loop-again
+    (λ c. search needs)
     returns)
