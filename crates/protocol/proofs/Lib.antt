@@ -1,0 +1,6 @@
+pub mod Texts
+pub mod Decimals
+pub mod Commands
+pub mod Splitting
+pub mod Loading
+pub mod Reading

@@ -1,0 +1,106 @@
+-- What a line says: the table of the protocol, row by row.
+use Prim.Native.Nat.{ℕ}
+use Prim.Native.String.{String}
+use mathlib.Core.Bool.{Bool, true, false, cond, _&&_}
+use mathlib.Core.List.{List, [], _∷_, map}
+use lib.ListN.{length}
+use lib.Dec.{leb, eqb}
+use Rattle.flag.specs.Flag.{allOf}
+use Rattle.protocol.specs.declared.decimal.Number.{Number}
+use Rattle.protocol.specs.declared.command.Call.{Call}
+use Rattle.protocol.specs.declared.command.Command.{Command}
+use Rattle.protocol.specs.Text.{text, same}
+use Rattle.protocol.specs.Decimal.{numberOf}
+use Rattle.protocol.specs.Words.{words}
+
+-- What the words after the first make of a command: their numbers have to be as many as it takes, each in its range.
+
+-- a command with a number of this range
+abbrev pub ranged : ℕ → ℕ → (ℕ → Command) → Number → Command
+ranged least most f (Number.Value n) = cond (leb least n && leb n most) (f n) Command.Bad
+ranged least most f Number.Nothing = Command.Bad
+
+-- no number
+abbrev pub bare : Command → List (List ℕ) → Command
+bare c [] = c
+bare c (w ∷ ws) = Command.Bad
+
+-- one number
+abbrev pub one : ℕ → ℕ → (ℕ → Command) → List (List ℕ) → Command
+one least most f [] = Command.Bad
+one least most f (w ∷ []) = ranged least most f (numberOf w)
+one least most f (w ∷ v ∷ ws) = Command.Bad
+
+-- two numbers, each of this range
+abbrev pub two : ℕ → ℕ → (ℕ → ℕ → Command) → List (List ℕ) → Command
+two least most f [] = Command.Bad
+two least most f (w ∷ ws) = ranged least most (λ n. one least most (f n) ws) (numberOf w)
+
+-- a word is a number
+abbrev pub isSome : Number → Bool
+isSome (Number.Value n) = true
+isSome Number.Nothing = false
+
+abbrev pub valueOf : Number → ℕ
+valueOf (Number.Value n) = n
+valueOf Number.Nothing = 0
+
+-- so many numbers
+unfoldable pub areNumbers : ℕ → List (List ℕ) → Bool
+areNumbers k ws = eqb (length ws) k && allOf (λ (w : List ℕ). isSome (numberOf w)) ws
+
+-- the numbers that words spell
+unfoldable pub valuesOf : List (List ℕ) → List ℕ
+valuesOf ws = map (λ (w : List ℕ). valueOf (numberOf w)) ws
+
+abbrev pub many : ℕ → Command → List (List ℕ) → Command
+many k c ws = cond (areNumbers k ws) c Command.Bad
+
+-- a row of the table: the first word of a line, and what the others make
+pub record Row : Type 0 where
+  pub name : String
+  pub form : List (List ℕ) → Command
+
+abbrev row : String → (List (List ℕ) → Command) → Row
+row s f = record { name = s; form = f }
+
+unfoldable pub table : List Row
+table =
+    row "fresh" (bare Command.Fresh)
+    ∷ row "load" (many 348 Command.Load)
+    ∷ row "state" (bare Command.State)
+    ∷ row "reset" (bare (Command.Step Call.Reset))
+    ∷ row "read" (one 0 255 (λ a. Command.Step (Call.Read a)))
+    ∷ row "write" (two 0 255 (λ a b. Command.Step (Call.Write a b)))
+    ∷ row "sin" (one 0 255 (λ v. Command.Step (Call.Sin v)))
+    ∷ row "modem" (one 0 255 (λ v. Command.Step (Call.Modem v)))
+    ∷ row "tick" (bare (Command.Step Call.Tick))
+    ∷ row "ticks" (one 1 4294967295 (λ n. Command.Step (Call.Ticks n)))
+    ∷ row "pins" (bare Command.Pins)
+    ∷ row "forecast" (bare Command.Forecast)
+    ∷ row "level" (one 0 4294967295 Command.Level)
+    ∷ row "run" (one 0 4294967295 Command.Run)
+    ∷ []
+
+-- the row of a word
+unfoldable pub lookUp : List Row → List ℕ → List (List ℕ) → Command
+lookUp [] w ws = Command.Bad
+lookUp (r ∷ rs) w ws = cond (same w (text (r .name))) (r .form ws) (lookUp rs w ws)
+
+-- the words of a line as a command
+unfoldable pub byWords : List (List ℕ) → Command
+byWords [] = Command.Bad
+byWords (w ∷ ws) = lookUp table w ws
+
+-- the command of a line, which has no newline
+unfoldable pub commandOf : List ℕ → Command
+commandOf line = byWords (words line)
+
+-- the words after the first
+abbrev pub rest : List (List ℕ) → List (List ℕ)
+rest [] = []
+rest (w ∷ ws) = ws
+
+-- the numbers of a line, after its first word
+unfoldable pub operandsOf : List ℕ → List ℕ
+operandsOf line = valuesOf (rest (words line))
