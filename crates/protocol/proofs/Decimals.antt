@@ -18,6 +18,10 @@ pub and-false : (t : Bool) → t && false ≡ false
 and-false true = refl
 and-false false = refl
 
+pub and-true : (t : Bool) → t ≡ t && true
+and-true true = refl
+and-true false = refl
+
 -- digits that follow make the value no smaller
 value-grows : (v : ℕ) (cs : List ℕ) → v ≤ valueAfter v cs
 unfolding valueAfter

@@ -4,3 +4,5 @@ pub mod Commands
 pub mod Splitting
 pub mod Loading
 pub mod Reading
+pub mod Places
+pub mod RoundTrip

@@ -3,7 +3,7 @@
 use Rattle.protocol.specs.declared.decimal.Number.{Number}
 use Prim.Native.Nat.{ℕ, suc, _+_, _-_, _≤_, _<_}
 use mathlib.Core.Path.{_≡_, refl, sym, ap, _∙_}
-use mathlib.Core.Bool.{Bool, true, false, _&&_}
+use mathlib.Core.Bool.{Bool, true, false}
 use mathlib.Core.List.{List, [], _∷_, _++_}
 use lib.ListN.{length, take, drop, set, length-set, length-drop}
 use lib.Seq.{take-all, take-suc-set, drop-drop, append-snoc}
@@ -16,7 +16,7 @@ use Rattle.protocol.specs.Text.{before}
 use Rattle.protocol.specs.Decimal.{numberOf}
 use Rattle.protocol.specs.Words.{words}
 use Rattle.protocol.specs.Command.{areNumbers, valuesOf}
-use Rattle.protocol.proofs.Decimals.{and-false}
+use Rattle.protocol.proofs.Decimals.{and-false, and-true}
 use Rattle.protocol.proofs.Splitting.{words-whole, words-part, Led, led}
 
 same-test : (a b c d : ℕ) → (a ≡ b → c ≡ d) → (c ≡ d → a ≡ b) → eqb a b ≡ eqb c d
@@ -123,10 +123,6 @@ module _ {l from to : List ℕ} {at i : ℕ} where
           ∙ sym (one-number (length from - i) n w [] said p)
           ∙ sym (ap (areNumbers (length from - i)) (first-whole f e))
           ∙ f .rest
-        where
-          and-true : (t : Bool) → t ≡ t && true
-          and-true true = refl
-          and-true false = refl
 
       pub fill-all : Filling l from to at i → i < length from → end ≡ length l → eqb (i + 1) (length (set to i n)) ≡ true → set to i n ≡ valuesOf (words l)
       unfolding valuesOf
