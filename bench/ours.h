@@ -1,4 +1,4 @@
-/* The proved library. The state goes by value: the last answer holds it between calls. */
+/* The proved library: the state goes in and comes back by value. */
 #include "uart.h"
 
 struct device {
