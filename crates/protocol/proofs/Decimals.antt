@@ -1,5 +1,4 @@
 -- Numbers as text: the loop over a word's digits, and the digits of a number one by one.
--- Reading.
 use Rattle.protocol.specs.declared.decimal.Number.{Number}
 use Prim.Native.Nat.{ℕ, zero, suc, _+_, _-_, _*_, _/_, _%_, _^_, _≤_, _<_}
 use mathlib.Core.Path.{_≡_, refl, sym, ap, _∙_}
@@ -13,6 +12,8 @@ use borrow.Author.Tests.{lt-ltb, le-ltb, le-leb, lt-leb, eq-eqb, ne-eqb}
 use Rattle.protocol.specs.Decimal.{valueAfter, numberAfter, numberOf, glyph, digitsOf, decimalOf, separator, lineOf}
 use Rattle.protocol.specs.Text.{Appended}
 use Rattle.protocol.proofs.Texts.{drop-at, appended-one, appended-then}
+
+-- Reading.
 
 pub and-false : (t : Bool) → t && false ≡ false
 and-false true = refl

@@ -1,5 +1,4 @@
 -- Numbers read one by one into a buffer that they have to fill.
--- the same test of two pairs of numbers
 use Rattle.protocol.specs.declared.decimal.Number.{Number}
 use Prim.Native.Nat.{ℕ, suc, _+_, _-_, _≤_, _<_}
 use mathlib.Core.Path.{_≡_, refl, sym, ap, _∙_}
@@ -19,6 +18,7 @@ use Rattle.protocol.specs.Command.{areNumbers, valuesOf}
 use Rattle.protocol.proofs.Decimals.{and-false, and-true}
 use Rattle.protocol.proofs.Splitting.{words-whole, words-part, Led, led}
 
+-- the same test of two pairs of numbers
 same-test : (a b c d : ℕ) → (a ≡ b → c ≡ d) → (c ≡ d → a ≡ b) → eqb a b ≡ eqb c d
 same-test a b c d f g = go (ℕ-discrete a b)
   where

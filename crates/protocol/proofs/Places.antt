@@ -1,18 +1,39 @@
 -- The loops over the places of a state: numbers copied into a buffer, and arrays made of numbers.
--- Copying: the first i of the numbers ns stand in the buffer from `at` on.
+use mathlib.Core.Bool.{Bool, true, false, _&&_}
+use borrow.Author.Tests.{le-leb, lt-leb}
+use Rattle.flag.specs.Flag.{allOf}
 use Prim.Native.Nat.{ℕ, zero, suc, _+_, _-_, _*_, _%_, _≤_, _<_}
 use mathlib.Core.Path.{_≡_, refl, sym, ap, _∙_}
 use mathlib.Core.List.{List, [], _∷_, _++_, map, append-assoc, append-nil}
-use lib.ListN.{length, getD, take, drop, set, replicate, length-set, List·getD-map}
+use lib.ListN.{drop-of-length-le, length, getD, take, drop, set, replicate, length-set, List·getD-map}
 use lib.Seq.{take-suc, take-suc-set, take-all, set-at, append-snoc, length-take-le, drop-drop}
 use native.Mathlib.Numerals.{add-one}
 use native.Mathlib.Omega.{arith}
 use Rattle.queue.specs.declared.Entry.{Entry}
 use Rattle.protocol.specs.Text.{Appended}
-use Rattle.protocol.proofs.Texts.{appended-then}
+use Rattle.protocol.proofs.Texts.{drop-at, appended-then}
 use Rattle.device.specs.declared.State.{State}
-use Rattle.protocol.specs.Numbers.{settingsNumbers, frameNumbers, receiverNumbers, numbersOf, entryNumbers, entriesNumbers, low, entryOf, entriesOf}
+use Rattle.protocol.specs.Numbers.{isByte, settingsNumbers, frameNumbers, receiverNumbers, numbersOf, entryNumbers, entriesNumbers, low, entryOf, entriesOf}
 
+-- Testing: the test of the numbers from place i on gives b.
+pub record Testing (ns : List ℕ) (b : Bool) (i : ℕ) : Type 0 where
+  pub most : i ≤ length ns
+  pub same : allOf isByte (drop i ns) ≡ b
+
+module _ {ns : List ℕ} {b : Bool} {i : ℕ} where
+  test-at : Testing ns b i → i < length ns → (isByte (getD ns i 0) && allOf isByte (drop (i + 1) ns)) ≡ b
+  test-at w h = rw (drop-at ns i 0 h) at (w .same)
+
+  pub test-turns : Testing ns b i → i < length ns → getD ns i 0 ≤ 255 → Testing ns b (i + 1)
+  test-turns w h k = record { most = omega arith; same = simp (le-leb _ _ k) at (test-at w h) }
+
+  pub test-fails : Testing ns b i → i < length ns → 255 < getD ns i 0 → false ≡ b
+  test-fails w h k = simp (lt-leb _ _ k) at (test-at w h)
+
+  pub test-ends : Testing ns b i → length ns ≤ i → true ≡ b
+  test-ends w h = rw (drop-of-length-le ns h) at (w .same)
+
+-- Copying: the first i of the numbers ns stand in the buffer from `at` on.
 pub record Copying (ns from : List ℕ) (at : ℕ) (to : List ℕ) (i : ℕ) : Type 0 where
   pub most : i ≤ length ns
   pub long : length to ≡ length from

@@ -1,5 +1,4 @@
 -- A whole line: its first word, its row, and which rows are no `load`.
--- A word that takes one number, or none, where what follows is no number.
 use Rattle.protocol.specs.declared.command.Call.{Call}
 use Prim.Native.String.{String}
 use Prim.Native.Nat.{ℕ, suc, _+_, _-_, _<_}
@@ -21,6 +20,7 @@ use Rattle.protocol.proofs.Texts.{same-equal}
 use Rattle.protocol.proofs.Splitting.{before-most, words-whole, words-part, words-split, rest-of, number-word, led}
 use Rattle.protocol.proofs.Commands.{cond-same, found}
 
+-- A word that takes one number, or none, where what follows is no number.
 pub no-number-row : (w r : List ℕ) → numberOf r ≡ Number.Nothing → same w (text "write") ≡ false → same w (text "load") ≡ false → Command.Bad ≡ lookUp table w (words r)
 unfolding lookUp table
 no-number-row w r e a b = go (decLt (before 32 r) (length r))

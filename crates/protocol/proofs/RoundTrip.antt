@@ -1,5 +1,4 @@
 -- What `load` makes of numbers that fit prints again as those numbers.
--- Bytes.
 use Prim.Native.Nat.{ℕ, zero, suc, _+_, _-_, _*_, _≤_, _<_}
 use mathlib.Core.Path.{_≡_, refl, sym, ap, ap₂, _∙_}
 use mathlib.Core.Bool.{true}
@@ -11,6 +10,8 @@ use borrow.Author.Tests.{leb-true}
 use Rattle.flag.specs.Flag.{allOf}
 use Rattle.flag.proofs.Laws.{and-left, and-right, and-both, Each, each-of}
 use Rattle.protocol.specs.Numbers.{entriesNumbers, settingsNumbers, frameNumbers, receiverNumbers, numbersOf, place, places, byteAt, isByte, bytesIn, fits, low, entriesOf, transmitOf, receiveOf, stateOf}
+
+-- Bytes.
 
 low-byte : (n : ℕ) → isByte n ≡ true → low n ≡ n
 low-byte n t = omega (arith, leb-true n 255 t)

@@ -1,5 +1,4 @@
 -- Texts: the search for a byte, the comparison of two, and what is appended to a buffer.
--- what is left of a list from place i on
 use Prim.Native.Nat.{ℕ, suc, _+_, _≤_, _<_}
 use mathlib.Core.Path.{_≡_, refl, ap, _∙_}
 use mathlib.Core.Bool.{Bool, true, false, _&&_}
@@ -12,6 +11,7 @@ use native.Mathlib.Omega.{arith}
 use borrow.Author.Tests.{eq-eqb, ne-eqb, eqb-true}
 use Rattle.protocol.specs.Text.{same, before, Appended}
 
+-- what is left of a list from place i on
 pub drop-at : {A : Type 0} (xs : List A) (i : ℕ) (d : A) → i < length xs → drop i xs ≡ getD xs i d ∷ drop (i + 1) xs
 drop-at xs i d h = rw (add-one, drop-cons xs i d)
 
