@@ -3,3 +3,4 @@ pub mod Decimal
 pub mod Words
 pub mod Command
 pub mod Numbers
+pub mod Session

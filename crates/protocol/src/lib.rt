@@ -6,6 +6,7 @@
 pub mod command;
 pub mod decimal;
 pub mod numbers;
+pub mod session;
 pub mod words;
 
 // The numbers of a state.

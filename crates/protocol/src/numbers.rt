@@ -33,7 +33,7 @@ pub fn put(numbers: &[u32], out: &mut [u32], at: usize)
 }
 
 // A byte as a number.
-fn wide(b: u8) -> u32
+pub fn wide(b: u8) -> u32
     ensures { λ r. ⌜ r ≡ b ⌝ }
 {
     b as u32

@@ -1,0 +1,168 @@
+// The current state, and what a command makes of it and writes.
+use crate::command;
+use crate::command::Call;
+use crate::command::Command;
+use crate::decimal;
+use crate::numbers;
+use crate::numbers::wide;
+use device::Answer;
+use device::Looked;
+use device::Registers;
+use device::State;
+ghost use mathlib.Core.Path.{_≡_};
+ghost use mathlib.Core.List.{List, [], _∷_};
+ghost use Prim.Native.Nat.{_+_, _≤_};
+ghost use lib.ListN.{length};
+ghost use Rattle.device.specs.State.{freshOf};
+ghost use Rattle.device.specs.Calls.{pinsOf};
+ghost use Rattle.device.specs.Forecast.{forecastOf, levelOf, runOf};
+ghost use Rattle.protocol.specs.Text.{text, Appended};
+ghost use Rattle.protocol.specs.Decimal.{lineOf};
+ghost use Rattle.protocol.specs.Command.{commandOf, operandsOf};
+ghost use Rattle.protocol.specs.Session.{held, unfitState, loadedOf, currentNumbers, stepOf, stepNumbers, lookNumbers, forecastNumbers, levelNumbers, saidOf, nextOf, keptOf};
+
+// The current state. Where loaded numbers do not fit the model's types, it is one that every call
+// refuses, and the numbers are kept apart.
+pub struct Session {
+    pub state: State,
+    pub fits: bool,
+}
+
+// The current state after a command, and the end of its answer in the buffer.
+pub struct Said {
+    pub session: Session,
+    pub end: usize,
+}
+
+// The current state at the start.
+pub fn start() -> Session
+    ensures { λ r. ⌜ r ≡ held freshOf ⌝ }
+{
+    Session {
+        state: uart::fresh(),
+        fits: true,
+    }
+}
+
+// A state that every call refuses.
+fn unfit() -> State
+    ensures { λ r. ⌜ r ≡ unfitState ⌝ }
+{
+    let mut s = uart::fresh();
+    let r = Registers {
+        ier: 255,
+        mcr: 0,
+        lcr: 0,
+        scr: 0,
+    };
+    s.registers = r;
+    s
+}
+
+// The current state after `load` of these numbers.
+fn loaded(n: &[u32]) -> Session
+    requires { ⌜ length (now n) ≡ 348 ⌝ }
+    ensures { λ r. ⌜ r ≡ loadedOf (now (n .entry)) ⌝ }
+{
+    if numbers::fits(n) {
+        return Session {
+            state: numbers::state_of(n),
+            fits: true,
+        };
+    }
+    Session {
+        state: unfit(),
+        fits: false,
+    }
+}
+
+// A step of the model.
+fn step(s: State, c: Call) -> Answer
+    ensures { λ r. ⌜ r ≡ stepOf s c ⌝ }
+{
+    match c {
+        Call::Reset => uart::reset(s),
+        Call::Read(a) => uart::read(s, a),
+        Call::Write(a, b) => uart::write(s, a, b),
+        Call::Sin(v) => uart::set_sin(s, v),
+        Call::Modem(v) => uart::set_modem(s, v),
+        Call::Tick => uart::tick(s),
+        Call::Ticks(n) => uart::ticks(s, n),
+    }
+}
+
+// The numbers of a step's answer.
+fn step_numbers(a: Answer) -> [u32; 8]
+    ensures { λ r. ⌜ r ≡ stepNumbers a ⌝ }
+{
+    [
+        wide(a.number),
+        wide(a.byte),
+        wide(a.outputs.sout),
+        wide(a.outputs.rts),
+        wide(a.outputs.dtr),
+        wide(a.outputs.out1),
+        wide(a.outputs.out2),
+        wide(a.outputs.intrpt),
+    ]
+}
+
+// The numbers of the pins' answer.
+fn look_numbers(l: Looked) -> [u32; 7]
+    ensures { λ r. ⌜ r ≡ lookNumbers l ⌝ }
+{
+    [
+        l.number as u32,
+        l.outputs.sout as u32,
+        l.outputs.rts as u32,
+        l.outputs.dtr as u32,
+        l.outputs.out1 as u32,
+        l.outputs.out2 as u32,
+        l.outputs.intrpt as u32,
+    ]
+}
+
+// Puts the answer `0`.
+fn put_done(out: &mut [u8], at: usize) -> usize
+    requires { ⌜ at + 11 ≤ length (now out) ⌝ }
+    ensures { λ r. ⌜ Appended (now (out .entry)) at (lineOf (0 ∷ [])) (now (out .exit)) r ⌝ }
+{
+    let n = [0u32; 1];
+    decimal::put_line(&n, out, at)
+}
+
+// Puts the answer `bad`.
+fn put_bad(out: &mut [u8], at: usize) -> usize
+    requires { ⌜ at + 4 ≤ length (now out) ⌝ }
+    ensures { λ r. ⌜ Appended (now (out .entry)) at (text "bad\n") (now (out .exit)) r ⌝ }
+{
+    out[at] = b'b';
+    out[at + 1] = b'a';
+    out[at + 2] = b'd';
+    out[at + 3] = b'\n';
+    at + 4
+}
+
+// Puts a number answered and one result.
+fn put_pair(number: u8, result: u32, out: &mut [u8], at: usize) -> usize
+    requires { ⌜ at + 22 ≤ length (now out) ⌝ }
+    ensures { λ r. ⌜ Appended (now (out .entry)) at (lineOf (number ∷ result ∷ [])) (now (out .exit)) r ⌝ }
+{
+    let n = [number as u32, result];
+    decimal::put_line(&n, out, at)
+}
+
+// Puts the numbers of the current state.
+fn put_current(s: Session, kept: &[u32], out: &mut [u8], at: usize) -> usize
+    requires { ⌜ length (now kept) ≡ 348 ⌝ }
+    requires { ⌜ at + 3828 ≤ length (now out) ⌝ }
+    ensures { λ r. ⌜ Appended (now (out .entry)) at (lineOf (currentNumbers s (now (kept .entry)))) (now (out .exit)) r ⌝ }
+{
+    if s.fits {
+        let mut n = [0u32; 348];
+        let t = s.state;
+        numbers::put_state(t, &mut n);
+        return decimal::put_line(&n, out, at);
+    }
+    decimal::put_line(kept, out, at)
+}
