@@ -1,10 +1,11 @@
 -- The quiet pulse is the pulse that document 01 defines, on a state that the rules which end a step leave as it is.
-use Prim.Native.Nat.{ℕ, _-_, _≤_}
+use Prim.Native.Nat.{ℕ, _+_, _-_, _%_, _≤_}
+use native.Mathlib.Decide.{ℕ-discrete}
 use native.Mathlib.Omega.{arith}
 use mathlib.Core.Path.{_≡_, refl, sym, ap, _∙_}
 use mathlib.Core.Bool.{Bool, true, false, cond, not, _&&_, _||_, true≢false, false≢true}
 use lib.Dec.{eqb}
-use borrow.Author.Tests.{not-true, not-false}
+use borrow.Author.Tests.{not-true, not-false, eq-eqb, ne-eqb, eqb-true}
 use Rattle.flag.specs.Flag.{on}
 use Rattle.flag.proofs.Laws.{by-test}
 use Rattle.device.specs.declared.Frame.{Frame}
@@ -16,11 +17,11 @@ use Rattle.device.specs.State.{withFrame, withReceiver, withLatches, noFrame}
 use Rattle.device.specs.Autoflow.{held, settledChanges, settledHold, settled}
 use Rattle.device.specs.Transmitter.{line, loaded, transmitted}
 use Rattle.device.specs.Modem.{loopback}
-use Rattle.device.specs.Receiver.{reception, heard, receive, enters, accepted, received}
+use Rattle.device.specs.Receiver.{goesOn, inCharacter, reception, heard, receive, enters, accepted, received}
 use Rattle.device.specs.Idle.{idleAt, idled}
 use Rattle.device.specs.Tick.{pulsed}
 use Rattle.line.specs.declared.QuietPulse.{QuietPulse}
-use Rattle.line.specs.Quiet.{timeOutAt, counted, settingOf, assembled, shiftedOut, busy, quietOf}
+use Rattle.line.specs.Quiet.{timeOutAt, counted, settingOf, assembled, shiftedOut, steady, stepped, busy, quietOf}
 
 -- The rules that end a step look at the queues, the registers and the two latches alone.
 pub settled-parts : (s : State) → settled s ≡ s → (k : ℕ) (x : Frame) (v : Receiver) (l : Latches) → l .changes ≡ s .latches .changes → l .hold ≡ s .latches .hold → settled (assembled s k x v l) ≡ assembled s k x v l
@@ -31,6 +32,32 @@ settled-parts s e k x v l c h =
     let hold : settledHold (s .registers) (s .fifo) (s .rx .count) (l .hold) ≡ l .hold =
     ap (λ (n : ℕ). settledHold (s .registers) (s .fifo) (s .rx .count) n) h ∙ ap (λ (t : State). t .latches .hold) e ∙ sym h in
     rw (changes, hold)
+
+-- A pulse that only steps on is the receiver's.
+pub steady-receives : (h lcr : ℕ) (v : Receiver) → steady h v ≡ true → receive h lcr v ≡ goesOn (stepped v)
+unfolding receive inCharacter steady stepped
+steady-receives h lcr v e =
+    elim (ℕ-discrete (v .phase) 2) [
+      | yes p ↦
+          let two : eqb (v .phase) 2 ≡ true = eq-eqb _ _ p in
+          let between : eqb ((v .position + 1) % 16) 8 ≡ false = not-true _ (simp two at e) in
+          simp (two, between)
+      | no p ↦
+          let two : eqb (v .phase) 2 ≡ false = ne-eqb _ _ p in
+          idle two (simp two at e)
+    ]
+  where
+    idle : eqb (v .phase) 2 ≡ false → cond (eqb (v .phase) 0) (eqb h 1) false ≡ true → receive h lcr v ≡ goesOn (stepped v)
+    idle two f =
+        elim (ℕ-discrete (v .phase) 0) [
+          | yes p ↦
+              let zero : eqb (v .phase) 0 ≡ true = eq-eqb _ _ p in
+              let high : h ≡ 1 = eqb-true _ _ (simp zero at f) in
+              let one : eqb (v .phase) 1 ≡ false = ne-eqb (v .phase) 1 (λ q. absurd (omega (arith, p, q))) in
+              let low : eqb h 0 ≡ false = ne-eqb h 0 (λ q. absurd (omega (arith, high, q))) in
+              simp (two, one, low)
+          | no p ↦ absurd (false≢true (simp (ne-eqb _ _ p) at f))
+        ]
 
 -- nothing is loaded
 transmitted-quiet : (s : State) → (eqb (shiftedOut (s .frame) .left) 0 && settingOf s .ready) ≡ false → transmitted s ≡ withFrame s (shiftedOut (s .frame))

@@ -1,6 +1,6 @@
 -- The quiet pulse: no byte is loaded and no character ends. It changes numbers alone, so that the loop over ticks leaves
 -- the queues where they are. What these definitions say of a pulse is proved against `Tick.antt`.
-use Prim.Native.Nat.{ℕ, _+_, _-_, _*_, min}
+use Prim.Native.Nat.{ℕ, _+_, _-_, _*_, _%_, min}
 use mathlib.Core.Bool.{Bool, true, false, cond, not, _&&_, _||_}
 use lib.Dec.{ltb, eqb}
 use Rattle.flag.specs.Flag.{on}
@@ -14,7 +14,7 @@ use Rattle.device.specs.State.{noFrame}
 use Rattle.device.specs.Modem.{loopback}
 use Rattle.device.specs.Autoflow.{held}
 use Rattle.device.specs.Transmitter.{line}
-use Rattle.device.specs.Receiver.{receive}
+use Rattle.device.specs.Receiver.{atPosition, receive}
 use Rattle.device.specs.Idle.{withIdle}
 use Rattle.line.specs.declared.Setting.{Setting}
 use Rattle.line.specs.declared.QuietPulse.{QuietPulse}
@@ -60,6 +60,15 @@ assembled s k x v l =
 -- the frame after a pulse that loads nothing
 unfoldable pub shiftedOut : Frame → Frame
 shiftedOut x = cond (eqb (x .left - 1) 0) noFrame (record { left = x .left - 1; byte = x .byte; format = x .format })
+
+-- a pulse that only steps on: between two samples of a character, or idle on a high line
+unfoldable pub steady : ℕ → Receiver → Bool
+steady h v =
+    cond (eqb (v .phase) 2) (not (eqb ((v .position + 1) % 16) 8)) (cond (eqb (v .phase) 0) (eqb h 1) false)
+
+-- the receiver after it
+unfoldable pub stepped : Receiver → Receiver
+stepped v = cond (eqb (v .phase) 2) (atPosition (v .position + 1) v) v
 
 -- the pulse is not quiet
 abbrev pub busy : Frame → Receiver → Latches → QuietPulse

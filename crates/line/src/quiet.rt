@@ -80,6 +80,15 @@ pub fn quiet_pulse(c: Setting, x: Frame, v: Receiver, l: Latches) -> QuietPulse
         return busy(x, v, l);
     }
     let level = receiver::heard(c.loopback, next, c.sin);
+    if receiver::steady(level, v) {
+        let stepped = receiver::step(v);
+        return QuietPulse {
+            quiet: true,
+            frame: next,
+            receiver: stepped,
+            latches: later(c, l),
+        };
+    }
     let r = receiver::receive(level, c.lcr, v);
     if r.ended {
         return busy(x, v, l);

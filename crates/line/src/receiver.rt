@@ -19,7 +19,8 @@ ghost use Rattle.device.specs.State.{idleReceiver};
 ghost use Rattle.device.specs.Fifo.{capacity};
 ghost use Rattle.device.specs.Transmitter.{line};
 ghost use Rattle.device.specs.Receiver.{goesOn, startAt, waiting as «waiting-receiver», isBreak, entryOf, stopSample, sampled, atPosition, inCharacter, receive as «receive-of», reception, entered, accepted};
-ghost use Rattle.line.specs.Needs.{Sampling, Sent, Hearing};
+ghost use Rattle.line.specs.Needs.{Placed, Sampling, Sent, Hearing};
+ghost use Rattle.line.specs.Quiet.{steady as «steady-of», stepped};
 
 // The receiver in no character: idle, or waiting for mark.
 fn outside(phase: u8) -> Receiver
@@ -170,6 +171,31 @@ pub fn receive(level: u8, lcr: u8, v: Receiver) -> Received
         return goes_on(start_at(0, lcr));
     }
     goes_on(v)
+}
+
+// Whether the pulse only steps on: between two samples of a character, or idle on a high line.
+pub fn steady(level: u8, v: Receiver) -> bool
+    requires { ⌜ Placed v ⌝ }
+    ensures { λ r. ⌜ r ≡ «steady-of» level v ⌝ }
+{
+    if v.phase == CHARACTER {
+        return (v.position + 1) % 16 != 8;
+    }
+    if v.phase == IDLE {
+        return level == 1;
+    }
+    false
+}
+
+// The receiver after such a pulse: in a character at the next position, else as it was.
+pub fn step(v: Receiver) -> Receiver
+    requires { ⌜ Placed v ⌝ }
+    ensures { λ r. ⌜ r ≡ stepped v ⌝ }
+{
+    if v.phase == CHARACTER {
+        return at_position(v.position + 1, v);
+    }
+    v
 }
 
 // The level that the receiver hears: in loopback the transmitter's line, else SIN.
