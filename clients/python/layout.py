@@ -6,40 +6,51 @@ import uart
 from uart import Answer, Forecasted, Leveled, Looked, Ran, Refused, State, Uart, library
 
 
-def numbers(value):
-    """Every field of a struct, in order, arrays place by place."""
+def named(value):
+    """The fields of a struct by name, arrays as lists."""
     if isinstance(value, int):
-        return [value]
+        return value
     if isinstance(value, ctypes.Array):
-        return [n for place in value for n in numbers(place)]
-    return [n for name, *_ in value._fields_ for n in numbers(getattr(value, name))]
+        return [named(place) for place in value]
+    return {name: named(getattr(value, name)) for name, _ in value._fields_}
 
 
 def four(n):
     return n * 0x01010101
 
 
-STATE = (
-    [1, 2, 3, 4, four(5), four(6), 7, 8, 9, 10, 11, 12]
-    + [13] * 64
-    + [four(14), four(15), 16, 17]
-    + [18, 19, 20, 21] * 64
-    + [four(22), 23, 24, 25, 26, four(27), 28, 29, 30, 31, 32, four(33)]
-)
-OUTPUTS = [36, 37, 38, 39, 40, 41]
+STATE = {
+    "registers": {"ier": 1, "mcr": 2, "lcr": 3, "scr": 4},
+    "baud": {"divisor": four(5), "k": four(6)},
+    "fifo": {"enabled": 7, "size": 8, "dma": 9, "trigger": 10},
+    "inputs": {"modem": 11, "sin": 12},
+    "tx": {"bytes": [13] * 64, "count": four(14)},
+    "frame": {"left": four(15), "byte": 16, "format": 17},
+    "rx": {"entries": [{"byte": 18, "pe": 19, "fe": 20, "bi": 21}] * 64, "count": four(22)},
+    "receiver": {"phase": 23, "format": 24, "samples": 25, "parity": 26, "position": four(27)},
+    "latches": {
+        "empty": 28,
+        "overrun": 29,
+        "timeout": 30,
+        "changes": 31,
+        "hold": 32,
+        "idle": four(33),
+    },
+}
+OUTPUTS = {"sout": 36, "rts": 37, "dtr": 38, "out1": 39, "out2": 40, "intrpt": 41}
 SPECIMENS = {
     State: STATE,
-    Answer: [34, 35] + OUTPUTS + STATE,
-    Looked: [34] + OUTPUTS,
-    Forecasted: [34, four(35)],
-    Leveled: [34, 35],
-    Ran: [34, four(35)] + STATE,
+    Answer: {"number": 34, "byte": 35, "outputs": OUTPUTS, "state": STATE},
+    Looked: {"number": 34, "outputs": OUTPUTS},
+    Forecasted: {"number": 34, "ticks": four(35)},
+    Leveled: {"number": 34, "level": 35},
+    Ran: {"number": 34, "used": four(35), "state": STATE},
 }
 
 for struct, expected in SPECIMENS.items():
     name = struct.__name__.lower()
     assert getattr(library, "uart_size_of_" + name)() == ctypes.sizeof(struct), name
-    assert numbers(getattr(library, "uart_specimen_" + name)()) == expected, name
+    assert named(getattr(library, "uart_specimen_" + name)()) == expected, name
 
 # A state handed in arrives, and a refused one stays as it was.
 u = Uart()
@@ -58,12 +69,12 @@ u.state.latches.idle = 7
 assert u.read(uart.LSR) == 0x8B
 assert u.read(uart.RBR) == 0x5A
 u.state.rx.entries[63].bi = 1
-before = numbers(u.state)
+before = named(u.state)
 try:
     u.read(uart.LSR)
     raise AssertionError("not refused")
 except Refused as refusal:
     assert refusal.number == uart.MALFORMED
-assert numbers(u.state) == before
+assert named(u.state) == before
 
 print("layout: ok")
