@@ -55,7 +55,7 @@ static void prepare(struct device *d, uint32_t divisor, uint8_t mcr, int bytes)
         device_write(d, 0, (uint8_t)(i * 37 + 11));
 }
 
-/* Single calls, on a state with 40 bytes queued and some received. */
+/* Single calls, on a state with 39 bytes queued and 20 received at first. */
 static void single_calls(void)
 {
     static const uint8_t reads[] = { 5, 2, 6, 3 };

@@ -1,6 +1,7 @@
 // The queue of bytes.
 use crate::BytePut;
 use crate::ByteQueue;
+use crate::LAST;
 use crate::PLACES;
 ghost use mathlib.Core.Path.{_≡_};
 ghost use Prim.Native.Nat.{_<_, _≤_};
@@ -52,11 +53,11 @@ fn shift(bytes: [u8; 64]) -> [u8; 64]
 {
     let mut next = bytes;
     let mut i: usize = 0;
-    while i < PLACES - 1 {
+    while i < LAST {
         next[i] = next[i + 1];
         i += 1;
     }
-    next[63] = 0;
+    next[LAST] = 0;
     next
 }
 

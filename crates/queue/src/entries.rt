@@ -2,6 +2,7 @@
 use crate::Entry;
 use crate::EntryPut;
 use crate::EntryQueue;
+use crate::LAST;
 use crate::PLACES;
 ghost use mathlib.Core.Path.{_≡_};
 ghost use Prim.Native.Nat.{_<_, _≤_};
@@ -67,12 +68,12 @@ fn shift(entries: [Entry; 64]) -> [Entry; 64]
     let e = none();
     let mut next = entries;
     let mut i: usize = 0;
-    while i < PLACES - 1 {
+    while i < LAST {
         let x = next[i + 1];
         next[i] = x;
         i += 1;
     }
-    next[63] = e;
+    next[LAST] = e;
     next
 }
 

@@ -7,8 +7,10 @@
 pub mod bytes;
 pub mod entries;
 
-// The places of a queue.
+// The places of a queue, and the last of them.
 pub const PLACES: usize = 64;
+
+pub const LAST: usize = 63;
 
 // The transmit queue.
 #[repr(C)]
