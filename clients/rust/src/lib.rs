@@ -83,10 +83,8 @@ impl Default for Uart {
 impl Uart {
     /// In the fresh state.
     pub fn fresh() -> Uart {
-        // SAFETY: raw.rs declares the library's calls and structs; tests/layout.rs holds the
-        // structs against the library. No call has a condition on what it is given.
         Uart {
-            state: unsafe { raw::uart_fresh() },
+            state: raw::uart_fresh(),
         }
     }
 
@@ -98,67 +96,67 @@ impl Uart {
 
     /// Reset. The pins after it, as for each step below.
     pub fn reset(&mut self) -> Result<Outputs, Refusal> {
-        let answer = unsafe { raw::uart_reset(self.state) };
+        let answer = raw::uart_reset(self.state);
         Ok(self.step(answer)?.outputs)
     }
 
     /// The byte that a register read gives.
     pub fn read(&mut self, address: u8) -> Result<u8, Refusal> {
-        let answer = unsafe { raw::uart_read(self.state, address) };
+        let answer = raw::uart_read(self.state, address);
         Ok(self.step(answer)?.byte)
     }
 
     /// A register write.
     pub fn write(&mut self, address: u8, byte: u8) -> Result<Outputs, Refusal> {
-        let answer = unsafe { raw::uart_write(self.state, address, byte) };
+        let answer = raw::uart_write(self.state, address, byte);
         Ok(self.step(answer)?.outputs)
     }
 
     /// The pin SIN at a level, 0 or 1.
     pub fn set_sin(&mut self, level: u8) -> Result<Outputs, Refusal> {
-        let answer = unsafe { raw::uart_set_sin(self.state, level) };
+        let answer = raw::uart_set_sin(self.state, level);
         Ok(self.step(answer)?.outputs)
     }
 
     /// The modem pins CTS, DSR, RI, DCD asserted as bits 0..3 say.
     pub fn set_modem(&mut self, levels: u8) -> Result<Outputs, Refusal> {
-        let answer = unsafe { raw::uart_set_modem(self.state, levels) };
+        let answer = raw::uart_set_modem(self.state, levels);
         Ok(self.step(answer)?.outputs)
     }
 
     /// One tick of the clock.
     pub fn tick(&mut self) -> Result<Outputs, Refusal> {
-        let answer = unsafe { raw::uart_tick(self.state) };
+        let answer = raw::uart_tick(self.state);
         Ok(self.step(answer)?.outputs)
     }
 
     /// n ticks of the clock.
     pub fn ticks(&mut self, n: u32) -> Result<Outputs, Refusal> {
-        let answer = unsafe { raw::uart_ticks(self.state, n) };
+        let answer = raw::uart_ticks(self.state, n);
         Ok(self.step(answer)?.outputs)
     }
 
     /// The output pins as they are.
     pub fn pins(&self) -> Result<Outputs, Refusal> {
-        let looked = unsafe { raw::uart_pins(self.state) };
+        let looked = raw::uart_pins(self.state);
         done(looked.number, looked.outputs)
     }
 
     /// The ticks until queue and shift register are both empty.
     pub fn forecast(&self) -> Result<u32, Refusal> {
-        let forecasted = unsafe { raw::uart_forecast(self.state) };
+        let forecasted = raw::uart_forecast(self.state);
         done(forecasted.number, forecasted.ticks)
     }
 
     /// The level of the transmitter's line after t ticks.
     pub fn level(&self, t: u32) -> Result<u8, Refusal> {
-        let leveled = unsafe { raw::uart_level(self.state, t) };
+        let leveled = raw::uart_level(self.state, t);
         done(leveled.number, leveled.level)
     }
 
     /// At most n ticks, until queue and shift register are both empty: the ticks used.
     pub fn run(&mut self, n: u32) -> Result<u32, Refusal> {
-        let ran = unsafe { raw::uart_run(self.state, n) };
+        let ran = raw::uart_run(self.state, n);
         let used = done(ran.number, ran.used)?;
         self.state = ran.state;
         Ok(used)

@@ -162,30 +162,32 @@ pub struct Ran {
     pub state: State,
 }
 
-extern "C" {
-    pub fn uart_fresh() -> State;
-    pub fn uart_reset(s: State) -> Answer;
-    pub fn uart_read(s: State, address: u8) -> Answer;
-    pub fn uart_write(s: State, address: u8, byte: u8) -> Answer;
-    pub fn uart_set_sin(s: State, level: u8) -> Answer;
-    pub fn uart_set_modem(s: State, levels: u8) -> Answer;
-    pub fn uart_tick(s: State) -> Answer;
-    pub fn uart_ticks(s: State, n: u32) -> Answer;
-    pub fn uart_pins(s: State) -> Looked;
-    pub fn uart_forecast(s: State) -> Forecasted;
-    pub fn uart_level(s: State, t: u32) -> Leveled;
-    pub fn uart_run(s: State, n: u32) -> Ran;
+// SAFETY: the signatures are those of crates/export, and no call has a condition on what it is given;
+// tests/layout.rs holds the structs against the library's own.
+unsafe extern "C" {
+    pub safe fn uart_fresh() -> State;
+    pub safe fn uart_reset(s: State) -> Answer;
+    pub safe fn uart_read(s: State, address: u8) -> Answer;
+    pub safe fn uart_write(s: State, address: u8, byte: u8) -> Answer;
+    pub safe fn uart_set_sin(s: State, level: u8) -> Answer;
+    pub safe fn uart_set_modem(s: State, levels: u8) -> Answer;
+    pub safe fn uart_tick(s: State) -> Answer;
+    pub safe fn uart_ticks(s: State, n: u32) -> Answer;
+    pub safe fn uart_pins(s: State) -> Looked;
+    pub safe fn uart_forecast(s: State) -> Forecasted;
+    pub safe fn uart_level(s: State, t: u32) -> Leveled;
+    pub safe fn uart_run(s: State, n: u32) -> Ran;
 
-    pub fn uart_size_of_state() -> u32;
-    pub fn uart_size_of_answer() -> u32;
-    pub fn uart_size_of_looked() -> u32;
-    pub fn uart_size_of_forecasted() -> u32;
-    pub fn uart_size_of_leveled() -> u32;
-    pub fn uart_size_of_ran() -> u32;
-    pub fn uart_specimen_state() -> State;
-    pub fn uart_specimen_answer() -> Answer;
-    pub fn uart_specimen_looked() -> Looked;
-    pub fn uart_specimen_forecasted() -> Forecasted;
-    pub fn uart_specimen_leveled() -> Leveled;
-    pub fn uart_specimen_ran() -> Ran;
+    pub safe fn uart_size_of_state() -> u32;
+    pub safe fn uart_size_of_answer() -> u32;
+    pub safe fn uart_size_of_looked() -> u32;
+    pub safe fn uart_size_of_forecasted() -> u32;
+    pub safe fn uart_size_of_leveled() -> u32;
+    pub safe fn uart_size_of_ran() -> u32;
+    pub safe fn uart_specimen_state() -> State;
+    pub safe fn uart_specimen_answer() -> Answer;
+    pub safe fn uart_specimen_looked() -> Looked;
+    pub safe fn uart_specimen_forecasted() -> Forecasted;
+    pub safe fn uart_specimen_leveled() -> Leveled;
+    pub safe fn uart_specimen_ran() -> Ran;
 }

@@ -76,59 +76,55 @@ fn outputs() -> Outputs {
 
 #[test]
 fn fields_lie_as_in_the_specimens() {
-    unsafe {
-        assert_eq!(uart_specimen_state(), state());
-        assert_eq!(
-            uart_specimen_answer(),
-            Answer {
-                number: 34,
-                byte: 35,
-                outputs: outputs(),
-                state: state()
-            }
-        );
-        assert_eq!(
-            uart_specimen_looked(),
-            Looked {
-                number: 34,
-                outputs: outputs()
-            }
-        );
-        assert_eq!(
-            uart_specimen_forecasted(),
-            Forecasted {
-                number: 34,
-                ticks: four(35)
-            }
-        );
-        assert_eq!(
-            uart_specimen_leveled(),
-            Leveled {
-                number: 34,
-                level: 35
-            }
-        );
-        assert_eq!(
-            uart_specimen_ran(),
-            Ran {
-                number: 34,
-                used: four(35),
-                state: state()
-            }
-        );
-    }
+    assert_eq!(uart_specimen_state(), state());
+    assert_eq!(
+        uart_specimen_answer(),
+        Answer {
+            number: 34,
+            byte: 35,
+            outputs: outputs(),
+            state: state()
+        }
+    );
+    assert_eq!(
+        uart_specimen_looked(),
+        Looked {
+            number: 34,
+            outputs: outputs()
+        }
+    );
+    assert_eq!(
+        uart_specimen_forecasted(),
+        Forecasted {
+            number: 34,
+            ticks: four(35)
+        }
+    );
+    assert_eq!(
+        uart_specimen_leveled(),
+        Leveled {
+            number: 34,
+            level: 35
+        }
+    );
+    assert_eq!(
+        uart_specimen_ran(),
+        Ran {
+            number: 34,
+            used: four(35),
+            state: state()
+        }
+    );
 }
 
 #[test]
 fn sizes_are_the_librarys() {
-    unsafe {
-        assert_eq!(uart_size_of_state() as usize, size_of::<State>());
-        assert_eq!(uart_size_of_answer() as usize, size_of::<Answer>());
-        assert_eq!(uart_size_of_looked() as usize, size_of::<Looked>());
-        assert_eq!(uart_size_of_forecasted() as usize, size_of::<Forecasted>());
-        assert_eq!(uart_size_of_leveled() as usize, size_of::<Leveled>());
-        assert_eq!(uart_size_of_ran() as usize, size_of::<Ran>());
-    }
+    assert_eq!(uart_size_of_state() as usize, size_of::<State>());
+    assert_eq!(uart_size_of_answer() as usize, size_of::<Answer>());
+    assert_eq!(uart_size_of_looked() as usize, size_of::<Looked>());
+    assert_eq!(uart_size_of_forecasted() as usize, size_of::<Forecasted>());
+    assert_eq!(uart_size_of_leveled() as usize, size_of::<Leveled>());
+    assert_eq!(uart_size_of_ran() as usize, size_of::<Ran>());
 }
 
 #[test]
