@@ -6,3 +6,4 @@ pub mod Loading
 pub mod Reading
 pub mod Places
 pub mod RoundTrip
+pub mod Answering

@@ -1,10 +1,10 @@
 -- Texts: the search for a byte, the comparison of two, and what is appended to a buffer.
 use Prim.Native.Nat.{ℕ, suc, _+_, _≤_, _<_}
-use mathlib.Core.Path.{_≡_, refl, ap, _∙_}
+use mathlib.Core.Path.{_≡_, sym, refl, ap, _∙_}
 use mathlib.Core.Bool.{Bool, true, false, _&&_}
 use mathlib.Core.List.{List, [], _∷_, _++_, append-assoc}
 use lib.ListN.{length-set, length, getD, take, drop, set, length-append, drop-of-length-le}
-use lib.Seq.{drop-cons, take-suc-set}
+use lib.Seq.{take-all, drop-cons, take-suc-set}
 use lib.Dec.{eqb}
 use native.Mathlib.Numerals.{add-one}
 use native.Mathlib.Omega.{arith}
@@ -123,3 +123,7 @@ appended-four from at a b c d h =
     let p3 : Appended f2 (at + 2) (c ∷ []) f3 (at + 3) = rw e3 at (appended-one f2 (at + 2) c c (simp length-set (omega arith)) refl) in
     let p4 : Appended f3 (at + 3) (d ∷ []) (set f3 (at + 3) d) (at + 4) = rw e4 at (appended-one f3 (at + 3) d d (simp length-set (omega arith)) refl) in
     appended-then p1 (appended-then p2 (appended-then p3 p4))
+
+-- what fills the buffer from its start is all of it
+pub appended-whole : {from to : List ℕ} {s : List ℕ} → Appended from 0 s to (0 + length s) → length to ≡ length s → to ≡ s
+appended-whole {to = to} {s = s} p l = sym (take-all (0 + length s) to (omega arith)) ∙ p .holds

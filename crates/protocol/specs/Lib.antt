@@ -4,3 +4,4 @@ pub mod Words
 pub mod Command
 pub mod Numbers
 pub mod Session
+pub mod Lines

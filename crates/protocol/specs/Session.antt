@@ -36,6 +36,10 @@ loadedOf ns = cond (fits ns) (held (stateOf ns)) (record { state = unfitState; f
 unfoldable pub currentNumbers : Session → List ℕ → List ℕ
 currentNumbers s kept = cond (s .fits) (numbersOf (s .state)) kept
 
+-- with another state of the model
+abbrev pub moved : Session → State → Session
+moved s t = record { state = t; fits = s .fits }
+
 -- The calls.
 
 unfoldable pub stepOf : State → Call → Answer
@@ -88,11 +92,11 @@ unfoldable pub nextOf : Session → List ℕ → Command → Session
 nextOf s ns Command.Fresh = held freshOf
 nextOf s ns Command.Load = loadedOf ns
 nextOf s ns Command.State = s
-nextOf s ns (Command.Step c) = record { state = stepOf (s .state) c .state; fits = s .fits }
+nextOf s ns (Command.Step c) = moved s (stepOf (s .state) c .state)
 nextOf s ns Command.Pins = s
 nextOf s ns Command.Forecast = s
 nextOf s ns (Command.Level t) = s
-nextOf s ns (Command.Run n) = record { state = runOf (s .state) n .state; fits = s .fits }
+nextOf s ns (Command.Run n) = moved s (runOf (s .state) n .state)
 nextOf s ns Command.Bad = s
 
 -- The numbers loaded last, after a command.

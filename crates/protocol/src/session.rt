@@ -18,8 +18,8 @@ ghost use Rattle.device.specs.Calls.{pinsOf};
 ghost use Rattle.device.specs.Forecast.{forecastOf, levelOf, runOf};
 ghost use Rattle.protocol.specs.Text.{text, Appended};
 ghost use Rattle.protocol.specs.Decimal.{lineOf};
-ghost use Rattle.protocol.specs.Command.{commandOf, operandsOf};
-ghost use Rattle.protocol.specs.Session.{held, unfitState, loadedOf, currentNumbers, stepOf, stepNumbers, lookNumbers, forecastNumbers, levelNumbers, saidOf, nextOf, keptOf};
+ghost use Rattle.protocol.specs.Lines.{standing, lineSaid, lineNext};
+ghost use Rattle.protocol.specs.Session.{held, unfitState, loadedOf, currentNumbers, stepOf, stepNumbers, lookNumbers, forecastNumbers, levelNumbers, runNumbers, moved, saidOf, nextOf, keptOf};
 
 // The current state. Where loaded numbers do not fit the model's types, it is one that every call
 // refuses, and the numbers are kept apart.
@@ -165,4 +165,155 @@ fn put_current(s: Session, kept: &[u32], out: &mut [u8], at: usize) -> usize
         return decimal::put_line(&n, out, at);
     }
     decimal::put_line(kept, out, at)
+}
+
+// Makes a step, and puts its answer.
+fn stepped(s: Session, c: Call, out: &mut [u8], at: usize) -> Said
+    requires { ⌜ at + 88 ≤ length (now out) ⌝ }
+    ensures { λ r. ⌜ r .session ≡ moved s (stepOf (s .state) c .state) ⌝ }
+    ensures { λ r. ⌜ Appended (now (out .entry)) at (lineOf (stepNumbers (stepOf (s .state) c))) (now (out .exit)) (r .end) ⌝ }
+{
+    let t = s.state;
+    let a = step(t, c);
+    let n = step_numbers(a);
+    let end = decimal::put_line(&n, out, at);
+    let state = a.state;
+    Said {
+        session: Session {
+            state,
+            fits: s.fits,
+        },
+        end,
+    }
+}
+
+// Runs, and puts the answer.
+fn ran(s: Session, n: u32, out: &mut [u8], at: usize) -> Said
+    requires { ⌜ at + 22 ≤ length (now out) ⌝ }
+    ensures { λ r. ⌜ r .session ≡ moved s (runOf (s .state) n .state) ⌝ }
+    ensures { λ r. ⌜ Appended (now (out .entry)) at (lineOf (runNumbers (runOf (s .state) n))) (now (out .exit)) (r .end) ⌝ }
+{
+    let t = s.state;
+    let a = uart::run(t, n);
+    let end = put_pair(a.number, a.used, out, at);
+    let state = a.state;
+    Said {
+        session: Session {
+            state,
+            fits: s.fits,
+        },
+        end,
+    }
+}
+
+// Puts the pins as they are.
+fn put_pins(s: State, out: &mut [u8], at: usize) -> usize
+    requires { ⌜ at + 77 ≤ length (now out) ⌝ }
+    ensures { λ r. ⌜ Appended (now (out .entry)) at (lineOf (lookNumbers (pinsOf s))) (now (out .exit)) r ⌝ }
+{
+    let n = look_numbers(uart::pins(s));
+    decimal::put_line(&n, out, at)
+}
+
+// Puts the forecast.
+fn put_forecast(s: State, out: &mut [u8], at: usize) -> usize
+    requires { ⌜ at + 22 ≤ length (now out) ⌝ }
+    ensures { λ r. ⌜ Appended (now (out .entry)) at (lineOf (forecastNumbers (forecastOf s))) (now (out .exit)) r ⌝ }
+{
+    let a = uart::forecast(s);
+    put_pair(a.number, a.ticks, out, at)
+}
+
+// Puts the level of the transmitter's line after t ticks.
+fn put_level(s: State, t: u32, out: &mut [u8], at: usize) -> usize
+    requires { ⌜ at + 22 ≤ length (now out) ⌝ }
+    ensures { λ r. ⌜ Appended (now (out .entry)) at (lineOf (levelNumbers (levelOf s t))) (now (out .exit)) r ⌝ }
+{
+    let a = uart::level(s, t);
+    put_pair(a.number, wide(a.level), out, at)
+}
+
+// Loads numbers, and puts the answer.
+fn load(numbers: &[u32], kept: &mut [u32], out: &mut [u8], at: usize) -> Said
+    requires { ⌜ length (now numbers) ≡ 348 ⌝ }
+    requires { ⌜ length (now kept) ≡ 348 ⌝ }
+    requires { ⌜ at + 11 ≤ length (now out) ⌝ }
+    ensures { λ r. ⌜ r .session ≡ loadedOf (now (numbers .entry)) ⌝ }
+    ensures { λ _. ⌜ now (kept .exit) ≡ now (numbers .entry) ⌝ }
+    ensures { λ r. ⌜ Appended (now (out .entry)) at (lineOf (0 ∷ [])) (now (out .exit)) (r .end) ⌝ }
+{
+    numbers::put(numbers, kept, 0);
+    let end = put_done(out, at);
+    Said {
+        session: loaded(numbers),
+        end,
+    }
+}
+
+// Makes a command on the current state, and puts its answer into out from `at` on. The numbers of
+// a `load` are in `numbers`; `kept` has those loaded last.
+pub fn answer(
+    s: Session,
+    c: Command,
+    numbers: &[u32],
+    kept: &mut [u32],
+    out: &mut [u8],
+    at: usize,
+) -> Said
+    requires { ⌜ length (now numbers) ≡ 348 ⌝ }
+    requires { ⌜ length (now kept) ≡ 348 ⌝ }
+    requires { ⌜ at + 3828 ≤ length (now out) ⌝ }
+    ensures { λ r. ⌜ r .session ≡ nextOf s (now (numbers .entry)) c ⌝ }
+    ensures { λ _. ⌜ now (kept .exit) ≡ keptOf (now (kept .entry)) (now (numbers .entry)) c ⌝ }
+    ensures { λ r. ⌜ Appended (now (out .entry)) at (saidOf s (now (kept .entry)) c) (now (out .exit)) (r .end) ⌝ }
+{
+    let t = s.state;
+    match c {
+        Command::Step(call) => stepped(s, call, out, at),
+        Command::Fresh => Said {
+            session: start(),
+            end: put_done(out, at),
+        },
+        Command::Load => load(numbers, kept, out, at),
+        Command::State => Said {
+            session: s,
+            end: put_current(s, kept, out, at),
+        },
+        Command::Pins => Said {
+            session: s,
+            end: put_pins(t, out, at),
+        },
+        Command::Forecast => Said {
+            session: s,
+            end: put_forecast(t, out, at),
+        },
+        Command::Level(n) => Said {
+            session: s,
+            end: put_level(t, n, out, at),
+        },
+        Command::Run(n) => ran(s, n, out, at),
+        Command::Bad => Said {
+            session: s,
+            end: put_bad(out, at),
+        },
+    }
+}
+
+// Answers a line, which has no newline.
+pub fn answer_line(
+    s: Session,
+    line: &[u8],
+    numbers: &mut [u32],
+    kept: &mut [u32],
+    out: &mut [u8],
+    at: usize,
+) -> Said
+    requires { ⌜ length (now numbers) ≡ 348 ⌝ }
+    requires { ⌜ length (now kept) ≡ 348 ⌝ }
+    requires { ⌜ at + 3828 ≤ length (now out) ⌝ }
+    ensures { λ r. ⌜ standing (r .session) (now (kept .exit)) ≡ lineNext (standing s (now (kept .entry))) (now (line .entry)) ⌝ }
+    ensures { λ r. ⌜ Appended (now (out .entry)) at (lineSaid (standing s (now (kept .entry))) (now (line .entry))) (now (out .exit)) (r .end) ⌝ }
+{
+    let c = command::command_of(line, numbers);
+    answer(s, c, numbers, kept, out, at)
 }

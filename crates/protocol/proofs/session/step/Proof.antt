@@ -1,112 +1,76 @@
 -- Each way has the call that the definition has.
 use Rattle.protocol.specs.Session.{stepOf}
-use Prim.Native.Nat.{ℕ, zero, suc, _+_, _-_, _*_, _/_, _%_, _≤_, _<_}
-use mathlib.Core.Path.{_≡_, refl, sym, ap, _∙_}
-use mathlib.Core.Bool.{Bool, true, false, cond, not, _&&_}
-use mathlib.Core.List.{List, [], _∷_, _++_}
-use lib.ListN.{length, getD, take, drop, set, replicate}
-use native.Mathlib.Omega.{arith}
-use borrow.Author.Tests.{lt-ltb, le-ltb, le-leb, lt-leb, eq-eqb, ne-eqb, ltb-true, ltb-false, leb-true, leb-false, eqb-true, not-true, not-false}
+use mathlib.Core.Path.{sym, ap, _∙_}
 use borrow.Author.Needs.{needs}
 use Rattle.protocol.proofs.session.step.Statement.{statement}
 use Rattle.protocol.proofs.session.step.Tie as tie
-use Rattle.protocol.proofs.session.step.Reads as reads
-use Rattle.protocol.proofs.session.step.Lts as lts
-use Rattle.uart.proofs.read.Reads as read-reads
-use Rattle.uart.proofs.reset.Reads as reset-reads
-use Rattle.uart.proofs.set_modem.Reads as set-modem-reads
-use Rattle.uart.proofs.set_sin.Reads as set-sin-reads
-use Rattle.uart.proofs.tick.Reads as tick-reads
-use Rattle.uart.proofs.ticks.Reads as ticks-reads
-use Rattle.uart.proofs.write.Reads as write-reads
 
--- src/session.rt:84:24
 enum-told : tie.Need-enum-told
 enum-told c = search needs
 
--- src/session.rt:84:24
 reset-requires : tie.Need-reset-requires
 reset-requires c κs = search needs
 
--- src/session.rt:85:20
 enum-known-c : tie.Need-enum-known-c
 enum-known-c c = search needs
 
--- src/session.rt:85:26
 read-requires : tie.Need-read-requires
 read-requires c κs = search needs
 
--- src/session.rt:86:21
 enum-known-c-2 : tie.Need-enum-known-c-2
 enum-known-c-2 c = search needs
 
--- src/session.rt:86:30
 write-requires : tie.Need-write-requires
 write-requires c κs = search needs
 
--- src/session.rt:87:19
 enum-known-c-3 : tie.Need-enum-known-c-3
 enum-known-c-3 c = search needs
 
--- src/session.rt:87:25
 set-sin-requires : tie.Need-set-sin-requires
 set-sin-requires c κs = search needs
 
--- src/session.rt:88:21
 enum-known-c-4 : tie.Need-enum-known-c-4
 enum-known-c-4 c = search needs
 
--- src/session.rt:88:27
 set-modem-requires : tie.Need-set-modem-requires
 set-modem-requires c κs = search needs
 
--- src/session.rt:89:23
 enum-told-2 : tie.Need-enum-told-2
 enum-told-2 c = search needs
 
--- src/session.rt:89:23
 tick-requires : tie.Need-tick-requires
 tick-requires c κs = search needs
 
--- src/session.rt:90:21
 enum-known-c-5 : tie.Need-enum-known-c-5
 enum-known-c-5 c = search needs
 
--- src/session.rt:90:27
 ticks-requires : tie.Need-ticks-requires
 ticks-requires c κs = search needs
 
--- src/session.rt:80:1
 returns : tie.Need-returns
 unfolding stepOf
 returns c = c .reset .ensures ∙ ap (stepOf (c .before .before .before .args .s)) (sym (c .before .enum-told .given .1))
 
--- src/session.rt:80:1
 returns-2 : tie.Need-returns-2
 unfolding stepOf
 returns-2 c = c .read .ensures ∙ ap (stepOf (c .before .before .before .before .args .s)) (sym (c .before .before .c .given .1))
 
--- src/session.rt:80:1
 returns-3 : tie.Need-returns-3
 unfolding stepOf
 returns-3 c = c .write .ensures ∙ ap (stepOf (c .before .before .before .before .args .s)) (sym (c .before .before .c2 .given .1))
 
--- src/session.rt:80:1
 returns-4 : tie.Need-returns-4
 unfolding stepOf
 returns-4 c = c .set-sin .ensures ∙ ap (stepOf (c .before .before .before .before .args .s)) (sym (c .before .before .c3 .given .1))
 
--- src/session.rt:80:1
 returns-5 : tie.Need-returns-5
 unfolding stepOf
 returns-5 c = c .set-modem .ensures ∙ ap (stepOf (c .before .before .before .before .args .s)) (sym (c .before .before .c4 .given .1))
 
--- src/session.rt:80:1
 returns-6 : tie.Need-returns-6
 unfolding stepOf
 returns-6 c = c .tick .ensures ∙ ap (stepOf (c .before .before .before .args .s)) (sym (c .before .enum-told2 .given .1))
 
--- src/session.rt:80:1
 returns-7 : tie.Need-returns-7
 unfolding stepOf
 returns-7 c = c .ticks .ensures ∙ ap (stepOf (c .before .before .before .before .args .s)) (sym (c .before .before .c5 .given .1))

@@ -1,0 +1,45 @@
+-- A run of lines: what the program writes for what it reads.
+use Prim.Native.Nat.{ℕ}
+use mathlib.Core.Bool.{cond}
+use mathlib.Core.List.{List, [], _∷_, _++_}
+use lib.Dec.{eqb}
+use Rattle.device.specs.State.{freshOf}
+use Rattle.protocol.specs.declared.session.Session.{Session}
+use Rattle.protocol.specs.Command.{commandOf, operandsOf}
+use Rattle.protocol.specs.Session.{held, saidOf, nextOf, keptOf}
+
+-- where a run of lines stands: the current state, and the numbers loaded last
+pub record Standing : Type 0 where
+  pub session : Session
+  pub kept : List ℕ
+
+abbrev pub standing : Session → List ℕ → Standing
+standing s kept = record { session = s; kept = kept }
+
+-- what a line, without its newline, is answered
+unfoldable pub lineSaid : Standing → List ℕ → List ℕ
+lineSaid w line = saidOf (w .session) (w .kept) (commandOf line)
+
+-- where the run stands after it
+unfoldable pub lineNext : Standing → List ℕ → Standing
+lineNext w line =
+    record {
+      session = nextOf (w .session) (operandsOf line) (commandOf line);
+      kept = keptOf (w .kept) (operandsOf line) (commandOf line);
+    }
+
+-- what is written for the end of the input: nothing, but that a last line may lack its newline
+abbrev pub lastSaid : Standing → List ℕ → List ℕ
+lastSaid w [] = []
+lastSaid w (c ∷ cs) = lineSaid w (c ∷ cs)
+
+-- what is written for the rest of the input, where `line` is read of a line that has not ended: each line is answered
+-- at its newline
+unfoldable pub writtenAfter : Standing → List ℕ → List ℕ → List ℕ
+writtenAfter w line [] = lastSaid w line
+writtenAfter w line (c ∷ cs) =
+    cond (eqb c 10) (lineSaid w line ++ writtenAfter (lineNext w line) [] cs) (writtenAfter w (line ++ (c ∷ [])) cs)
+
+-- what the program writes for an input
+abbrev pub written : List ℕ → List ℕ
+written input = writtenAfter (standing (held freshOf) []) [] input
