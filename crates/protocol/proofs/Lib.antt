@@ -7,3 +7,4 @@ pub mod Reading
 pub mod Places
 pub mod RoundTrip
 pub mod Answering
+pub mod Blocks

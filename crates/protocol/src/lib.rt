@@ -5,6 +5,7 @@
 // through a block of lines. Nothing here reads or writes a file.
 pub mod command;
 pub mod decimal;
+pub mod lines;
 pub mod numbers;
 pub mod session;
 pub mod words;

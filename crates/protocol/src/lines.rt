@@ -1,0 +1,87 @@
+// A block of lines, and what is kept of a line that has not ended.
+use crate::LONGEST_ANSWER;
+use crate::session;
+use crate::session::Session;
+use crate::words;
+ghost use mathlib.Core.Path.{_≡_};
+ghost use mathlib.Core.List.{List, [], _++_};
+ghost use Prim.Native.Nat.{ℕ, _+_, _-_, _≤_, min};
+ghost use lib.ListN.{length, take, drop};
+ghost use Rattle.protocol.specs.Text.{before};
+ghost use Rattle.protocol.specs.Lines.{standing, writtenAfter, Answered};
+
+const NEWLINE: u8 = b'\n';
+
+// The most that is kept of a line that has not ended: one byte more than any that is no `bad`.
+const KEPT: usize = 3833;
+
+// Where the answering of a block stands: the current state, the place in the block after the last
+// line answered, and the end of the answers.
+pub struct Progress {
+    pub session: Session,
+    pub next: usize,
+    pub end: usize,
+}
+
+// Answers the whole lines of a block from `from` on, until none is left or the next answer may have
+// no room.
+pub fn answer_lines(
+    s: Session,
+    block: &[u8],
+    from: usize,
+    numbers: &mut [u32],
+    kept: &mut [u32],
+    out: &mut [u8],
+) -> Progress
+    requires { ⌜ from ≤ length (now block) ⌝ }
+    requires { ⌜ length (now numbers) ≡ 348 ⌝ }
+    requires { ⌜ length (now kept) ≡ 348 ⌝ }
+    ensures { λ r. ⌜ Answered (standing s (now (kept .entry))) (now (block .entry)) from (standing (r .session) (now (kept .exit))) (r .next) (now (out .exit)) (r .end) ⌝ }
+{
+    let mut t = s;
+    let mut next = from;
+    let mut end: usize = 0;
+    while end + LONGEST_ANSWER <= out.len() {
+        let stop = words::find(block, next, NEWLINE);
+        if stop == block.len() {
+            return Progress {
+                session: t,
+                next,
+                end,
+            };
+        }
+        let said = session::answer_line(t, &block[next..stop], numbers, kept, out, end);
+        t = said.session;
+        end = said.end;
+        next = stop + 1;
+    }
+    Progress {
+        session: t,
+        next,
+        end,
+    }
+}
+
+// How much is kept of so many bytes.
+fn at_most_kept(n: usize) -> usize
+    ensures { λ r. ⌜ r ≡ min n 3833 ⌝ }
+{
+    if n < KEPT { n } else { KEPT }
+}
+
+// Moves what is kept of the bytes of a block from `from` up to `to` to its start, and answers how
+// much that is.
+pub fn keep(block: &mut [u8], from: usize, to: usize) -> usize
+    requires { ⌜ from ≤ to ⌝ }
+    requires { ⌜ to ≤ length (now block) ⌝ }
+    ensures { λ r. ⌜ take r (now (block .exit)) ≡ take 3833 (take (to - from) (drop from (now (block .entry)))) ⌝ }
+    ensures { λ r. ⌜ r ≡ min (to - from) 3833 ⌝ }
+{
+    let n = at_most_kept(to - from);
+    let mut i: usize = 0;
+    while i < n {
+        block[i] = block[from + i];
+        i += 1;
+    }
+    n
+}
