@@ -14,15 +14,15 @@ use Rattle.protocol.specs.Lines.{Standing, lineSaid, lineNext, writtenAf
 
 -- a line that ends in d
 written-line : (w : Standing) (line d more : List ℕ) → before 10 d < length d
-  → writtenAfter w line (d ++ more) ≡ lineSaid w (line ++ take (before 10 d) d) ++ writtenAfter (lineNext w (line ++ take (before 10 d) d)) [] (drop (suc (before 10 d)) d ++ more)
+    → writtenAfter w line (d ++ more) ≡ lineSaid w (line ++ take (before 10 d) d) ++ writtenAfter (lineNext w (line ++ take (before 10 d) d)) [] (drop (suc (before 10 d)) d ++ more)
 unfolding before writtenAfter
 written-line w line [] more h = absurd (omega arith)
 written-line w line (c ∷ cs) more h = go (eqb c 10) (λ k. written-line w (line ++ (c ∷ [])) cs more k) h
   where
     go : (t : Bool)
-      → (before 10 cs < length cs → writtenAfter w (line ++ (c ∷ [])) (cs ++ more) ≡ lineSaid w ((line ++ (c ∷ [])) ++ take (before 10 cs) cs) ++ writtenAfter (lineNext w ((line ++ (c ∷ [])) ++ take (before 10 cs) cs)) [] (drop (suc (before 10 cs)) cs ++ more))
-      → cond t 0 (suc (before 10 cs)) < suc (length cs)
-      → cond t (lineSaid w line ++ writtenAfter (lineNext w line) [] (cs ++ more)) (writtenAfter w (line ++ (c ∷ [])) (cs ++ more))
+        → (before 10 cs < length cs → writtenAfter w (line ++ (c ∷ [])) (cs ++ more) ≡ lineSaid w ((line ++ (c ∷ [])) ++ take (before 10 cs) cs) ++ writtenAfter (lineNext w ((line ++ (c ∷ [])) ++ take (before 10 cs) cs)) [] (drop (suc (before 10 cs)) cs ++ more))
+        → cond t 0 (suc (before 10 cs)) < suc (length cs)
+        → cond t (lineSaid w line ++ writtenAfter (lineNext w line) [] (cs ++ more)) (writtenAfter w (line ++ (c ∷ [])) (cs ++ more))
         ≡ lineSaid w (line ++ take (cond t 0 (suc (before 10 cs))) (c ∷ cs)) ++ writtenAfter (lineNext w (line ++ take (cond t 0 (suc (before 10 cs))) (c ∷ cs))) [] (drop (suc (cond t 0 (suc (before 10 cs)))) (c ∷ cs) ++ more)
     go true f h = ap (λ (l : List ℕ). lineSaid w l ++ writtenAfter (lineNext w l) [] (cs ++ more)) (sym (append-nil line))
     go false f h =
@@ -36,8 +36,8 @@ written-held w line [] more e = ap (λ (l : List ℕ). writtenAfter w l more) (s
 written-held w line (c ∷ cs) more e = go (eqb c 10) (λ k. written-held w (line ++ (c ∷ [])) cs more k) e
   where
     go : (t : Bool) → (before 10 cs ≡ length cs → writtenAfter w (line ++ (c ∷ [])) (cs ++ more) ≡ writtenAfter w ((line ++ (c ∷ [])) ++ cs) more)
-      → cond t 0 (suc (before 10 cs)) ≡ suc (length cs)
-      → cond t (lineSaid w line ++ writtenAfter (lineNext w line) [] (cs ++ more)) (writtenAfter w (line ++ (c ∷ [])) (cs ++ more)) ≡ writtenAfter w (line ++ (c ∷ cs)) more
+        → cond t 0 (suc (before 10 cs)) ≡ suc (length cs)
+        → cond t (lineSaid w line ++ writtenAfter (lineNext w line) [] (cs ++ more)) (writtenAfter w (line ++ (c ∷ [])) (cs ++ more)) ≡ writtenAfter w (line ++ (c ∷ cs)) more
     go true f e = absurd (omega arith)
     go false f e = f (omega arith) ∙ ap (λ (l : List ℕ). writtenAfter w l more) (append-assoc line (c ∷ []) cs)
 
@@ -56,10 +56,10 @@ pub record Answering (w₀ : Standing) (block : List ℕ) (from long : ℕ) (w :
 
 module _ {w₀ : Standing} {block : List ℕ} {from long : ℕ} {w : Standing} {next : ℕ} {out : List ℕ} {end : ℕ} where
   pub answer-turns : (w′ : Standing) (stop : ℕ) (out′ : List ℕ) (end′ : ℕ)
-    → Answering w₀ block from long w next out end → stop ≡ next + before 10 (drop next block) → stop < length block
-    → length out′ ≡ length out
-    → w′ ≡ lineNext w (take (stop - next) (drop next block)) → Appended out end (lineSaid w (take (stop - next) (drop next block))) out′ end′
-    → Answering w₀ block from long w′ (stop + 1) out′ end′
+      → Answering w₀ block from long w next out end → stop ≡ next + before 10 (drop next block) → stop < length block
+      → length out′ ≡ length out
+      → w′ ≡ lineNext w (take (stop - next) (drop next block)) → Appended out end (lineSaid w (take (stop - next) (drop next block))) out′ end′
+      → Answering w₀ block from long w′ (stop + 1) out′ end′
   answer-turns w′ stop out′ end′ a e h l n p =
       let d : List ℕ = drop next block in
       let k : before 10 d ≡ stop - next = omega (arith, e) in
@@ -110,8 +110,8 @@ module _ {from : ℕ} {was block : List ℕ} {i : ℕ} where
       let v : ℕ = getD block (from + i) 0 in
       let q : from + i ≡ i + from = omega arith in
       let e : v ≡ getD (drop from was) i 0 =
-        ap (λ (j : ℕ). getD block j 0) q ∙ sym (getD-drop i block from 0) ∙ ap (λ (s : List ℕ). getD s from 0) (m .rest) ∙ getD-drop i was from 0
-        ∙ ap (λ (j : ℕ). getD was j 0) (sym q) ∙ sym (getD-drop from was i 0) in
+      ap (λ (j : ℕ). getD block j 0) q ∙ sym (getD-drop i block from 0) ∙ ap (λ (s : List ℕ). getD s from 0) (m .rest) ∙ getD-drop i was from 0
+      ∙ ap (λ (j : ℕ). getD was j 0) (sym q) ∙ sym (getD-drop from was i 0) in
       let k : i < length (drop from was) = simp length-drop (omega arith) in
       let t : take (i + 1) (set block i v) ≡ take i block ++ (v ∷ []) = rw add-one (take-suc-set block i v b) in
       let u : take (i + 1) (drop from was) ≡ take i (drop from was) ++ (v ∷ []) = rw (add-one, e) (take-suc (drop from was) i 0 k) in

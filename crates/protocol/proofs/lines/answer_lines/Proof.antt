@@ -60,10 +60,13 @@ loop-less c = search needs
 loop-again : tie.Need-loop-again Inv-loop μ-loop
 loop-again c =
     let i = c .before .before .before .before .before .before .before .before .before .before .before .before .before .before .before .loop .inv in
-    let a = c .before .before .before .before .before .before .before .answer-line in
-    (a .kept .1 .1 .0 ∙ i .0,
-    (a .kept .1 .1 .1 .0 ∙ i .1 .0,
-    answer-turns _ _ _ _ (i .1 .1) (c .before .before .before .before .before .before .before .before .before .before .before .before .before .find .ensures .0) (omega (arith, c .before .before .before .before .before .before .before .before .before .before .before .before .before .find .ensures .1, c .before .before .before .before .before .before .before .before .before .before .before .before .if1 .left)) (a .kept .1 .1 .1 .1 .0) (a .ensures .0) (a .ensures .1)))
+    let a = c .before .before .before .before .before .before .before .answer-line in (
+      a .kept .1 .1 .0 ∙ i .0,
+      (
+        a .kept .1 .1 .1 .0 ∙ i .1 .0,
+        answer-turns _ _ _ _ (i .1 .1) (c .before .before .before .before .before .before .before .before .before .before .before .before .before .find .ensures .0) (omega (arith, c .before .before .before .before .before .before .before .before .before .before .before .before .before .find .ensures .1, c .before .before .before .before .before .before .before .before .before .before .before .before .if1 .left)) (a .kept .1 .1 .1 .1 .0) (a .ensures .0) (a .ensures .1),
+      ),
+    )
 
 same-length-4 : tie.Need-same-length-4 Inv-loop μ-loop
 same-length-4 c = c .before .loop .inv .0

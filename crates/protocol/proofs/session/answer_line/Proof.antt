@@ -20,7 +20,7 @@ same-length-3 : tie.Need-same-length-3
 same-length-3 c = search needs
 
 returns : tie.Need-returns
-returns c = 
+returns c =
     (line-next _ _ _ _ _ (c .before .before .before .before .before .before .before .before .before .before .command-of .ensures .0) (c .before .before .before .before .before .before .before .before .before .before .command-of .ensures .1) _ _ (c .before .before .before .before .answer .ensures .0) (c .before .before .before .before .answer .ensures .1 .0), line-said _ _ _ _ _ (c .before .before .before .before .before .before .before .before .before .before .command-of .ensures .0) (c .before .before .before .before .before .before .before .before .before .before .command-of .ensures .1) (c .before .before .before .before .answer .ensures .1 .1))
 
 pub answer-line-spec : {M : Type 1} → statement M
