@@ -1,6 +1,6 @@
 -- The loops over a block: its lines answered one by one, and its rest moved to its start.
 use Prim.Native.Nat.{ℕ, suc, _+_, _-_, _≤_, _<_, min}
-use mathlib.Core.Path.{_≡_, sym, ap, _∙_}
+use mathlib.Core.Path.{refl, _≡_, sym, ap, _∙_}
 use mathlib.Core.Bool.{Bool, true, false, cond}
 use mathlib.Core.List.{List, [], _∷_, _++_, append-assoc, append-nil}
 use lib.ListN.{length, getD, take, drop, set, length-append, length-set, length-take, length-drop}
@@ -10,7 +10,7 @@ use native.Mathlib.Numerals.{add-one}
 use native.Mathlib.Decide.{decLe}
 use native.Mathlib.Omega.{arith}
 use Rattle.protocol.specs.Text.{before, Appended}
-use Rattle.protocol.specs.Lines.{Standing, lineSaid, lineNext, writtenAfter, Answered}
+use Rattle.protocol.specs.Lines.{lastSaid, Standing, lineSaid, lineNext, writtenAfter, Answered}
 
 -- a line that ends in d
 written-line : (w : Standing) (line d more : List ℕ) → before 10 d < length d
@@ -77,7 +77,7 @@ module _ {w₀ : Standing} {block : List ℕ} {from long : ℕ} {w : Standing} {
             ∙ ap (λ (s : List ℕ). s ++ writtenAfter w′ [] (drop (stop + 1) block ++ more)) (sym (p .holds));
       }
 
-  pub answer-none : Answering w₀ block from long w next out end → (stop : ℕ) → stop ≡ next + before 10 (drop next block) → stop ≡ length block → Answered w₀ block from w next out end
+  pub answer-none : Answering w₀ block from long w next out end → (stop : ℕ) → stop ≡ next + before 10 (drop next block) → stop ≡ length block → Answered w₀ block from w next out end false
   answer-none a stop e h =
       record {
         inside = a .inside;
@@ -87,14 +87,14 @@ module _ {w₀ : Standing} {block : List ℕ} {from long : ℕ} {w : Standing} {
         all = λ _. simp length-drop (omega (arith, e));
       }
 
-  pub answer-full : Answering w₀ block from long w next out end → length out < end + 3828 → Answered w₀ block from w next out end
-  answer-full a h =
+  pub answer-full : Answering w₀ block from long w next out end → Answered w₀ block from w next out end true
+  answer-full a =
       record {
         inside = a .inside;
         room = a .room;
         counted = sym (length-take-le end out (a .room));
         answers = a .answers;
-        all = λ (r : end + 3828 ≤ length out). absurd (omega arith);
+        all = λ (f : true ≡ false). let z : _≡_ {A = ℕ} 0 1 = cc in absurd (omega arith);
       }
 
 -- Moving: the first i bytes from `from` on stand at the start, the others as they were.
@@ -133,3 +133,12 @@ kept-part m n l e = go (decLe m 3833)
     go (no h) =
         let k : n ≡ 3833 = omega (arith, h) in
         rw k (sym (take-take 3833 m l (omega (arith, h))))
+
+-- the last line
+pub last-none : (w : Standing) (line out : List ℕ) → length line ≡ 0 → take 0 out ≡ lastSaid w line
+last-none w [] out e = refl
+last-none w (c ∷ cs) out e = absurd (omega arith)
+
+pub last-some : (w : Standing) (line out out′ : List ℕ) (end : ℕ) → (length line ≡ 0 → ⊥) → Appended out 0 (lineSaid w line) out′ end → take end out′ ≡ lastSaid w line
+last-some w [] out out′ end n p = absurd (n refl)
+last-some w (c ∷ cs) out out′ end n p = p .holds

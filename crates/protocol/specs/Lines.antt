@@ -1,7 +1,7 @@
 -- A run of lines: what the program writes for what it reads.
-use Prim.Native.Nat.{ℕ, _+_, _≤_}
+use Prim.Native.Nat.{ℕ, _≤_}
 use mathlib.Core.Path.{_≡_}
-use mathlib.Core.Bool.{cond}
+use mathlib.Core.Bool.{Bool, false, cond}
 use mathlib.Core.List.{List, [], _∷_, _++_}
 use lib.ListN.{length, take, drop, replicate}
 use lib.Dec.{eqb}
@@ -48,10 +48,10 @@ abbrev pub written : List ℕ → List ℕ
 written input = writtenAfter (standing (held freshOf) (replicate 348 0)) [] input
 
 -- The lines of a block from `from` on are answered as far as `next`: `out` holds the answers up to `end`, what is
--- written after them is what the rest asks for, and where an answer still has room no line is left.
-pub record Answered (w : Standing) (block : List ℕ) (from : ℕ) (w′ : Standing) (next : ℕ) (out : List ℕ) (end : ℕ) : Type 0 where
+-- written after them is what the rest asks for, and unless room was wanting no line is left.
+pub record Answered (w : Standing) (block : List ℕ) (from : ℕ) (w′ : Standing) (next : ℕ) (out : List ℕ) (end : ℕ) (full : Bool) : Type 0 where
   pub inside : next ≤ length block
   pub room : end ≤ length out
   pub counted : end ≡ length (take end out)
   pub answers : (more : List ℕ) → writtenAfter w [] (drop from block ++ more) ≡ take end out ++ writtenAfter w′ [] (drop next block ++ more)
-  pub all : end + 3828 ≤ length out → before 10 (drop next block) ≡ length (drop next block)
+  pub all : full ≡ false → before 10 (drop next block) ≡ length (drop next block)

@@ -4,11 +4,9 @@ use crate::session;
 use crate::session::Session;
 use crate::words;
 ghost use mathlib.Core.Path.{_≡_};
-ghost use mathlib.Core.List.{List, [], _++_};
-ghost use Prim.Native.Nat.{ℕ, _+_, _-_, _≤_, min};
+ghost use Prim.Native.Nat.{_-_, _≤_, min};
 ghost use lib.ListN.{length, take, drop};
-ghost use Rattle.protocol.specs.Text.{before};
-ghost use Rattle.protocol.specs.Lines.{standing, writtenAfter, Answered};
+ghost use Rattle.protocol.specs.Lines.{standing, lastSaid, Answered};
 
 const NEWLINE: u8 = b'\n';
 
@@ -16,11 +14,12 @@ const NEWLINE: u8 = b'\n';
 const KEPT: usize = 3833;
 
 // Where the answering of a block stands: the current state, the place in the block after the last
-// line answered, and the end of the answers.
+// line answered, the end of the answers, and whether it stopped for want of room.
 pub struct Progress {
     pub session: Session,
     pub next: usize,
     pub end: usize,
+    pub full: bool,
 }
 
 // Answers the whole lines of a block from `from` on, until none is left or the next answer may have
@@ -36,7 +35,7 @@ pub fn answer_lines(
     requires { ⌜ from ≤ length (now block) ⌝ }
     requires { ⌜ length (now numbers) ≡ 348 ⌝ }
     requires { ⌜ length (now kept) ≡ 348 ⌝ }
-    ensures { λ r. ⌜ Answered (standing s (now (kept .entry))) (now (block .entry)) from (standing (r .session) (now (kept .exit))) (r .next) (now (out .exit)) (r .end) ⌝ }
+    ensures { λ r. ⌜ Answered (standing s (now (kept .entry))) (now (block .entry)) from (standing (r .session) (now (kept .exit))) (r .next) (now (out .exit)) (r .end) (r .full) ⌝ }
 {
     let mut t = s;
     let mut next = from;
@@ -48,6 +47,7 @@ pub fn answer_lines(
                 session: t,
                 next,
                 end,
+                full: false,
             };
         }
         let said = session::answer_line(t, &block[next..stop], numbers, kept, out, end);
@@ -59,6 +59,7 @@ pub fn answer_lines(
         session: t,
         next,
         end,
+        full: true,
     }
 }
 
@@ -84,4 +85,27 @@ pub fn keep(block: &mut [u8], from: usize, to: usize) -> usize
         i += 1;
     }
     n
+}
+
+// Answers what is left at the end of the input: a line that lacks its newline, or nothing. Answers
+// the end of the answer.
+pub fn answer_last(
+    s: Session,
+    line: &[u8],
+    numbers: &mut [u32],
+    kept: &mut [u32],
+    out: &mut [u8],
+) -> usize
+    requires { ⌜ length (now numbers) ≡ 348 ⌝ }
+    requires { ⌜ length (now kept) ≡ 348 ⌝ }
+    requires { ⌜ 3828 ≤ length (now out) ⌝ }
+    ensures { λ r. ⌜ take r (now (out .exit)) ≡ lastSaid (standing s (now (kept .entry))) (now (line .entry)) ⌝ }
+    ensures { λ r. ⌜ r ≤ length (now (out .exit)) ⌝ }
+    ensures { λ r. ⌜ r ≡ length (take r (now (out .exit))) ⌝ }
+{
+    if line.len() == 0 {
+        return 0;
+    }
+    let said = session::answer_line(s, line, numbers, kept, out, 0);
+    said.end
 }

@@ -78,7 +78,7 @@ same-length-6 : tie.Need-same-length-6 Inv-loop μ-loop
 same-length-6 c = c .before .loop .inv .1 .1 .same
 
 returns-2 : tie.Need-returns-2 Inv-loop μ-loop
-returns-2 c = answer-full (c .before .loop .inv .1 .1) (omega arith)
+returns-2 c = answer-full (c .before .loop .inv .1 .1)
 
 pub answer-lines-spec : {M : Type 1} → statement M
 answer-lines-spec =
