@@ -10,7 +10,7 @@ pub mod sampling;
 use queue::ByteQueue;
 use queue::EntryQueue;
 ghost use mathlib.Core.Path.{_≡_};
-ghost use Rattle.device.specs.State.{freshOf, resetState};
+ghost use Rattle.device.specs.State.{freshOf, resetState, withInputs};
 
 // The registers that keep what is written to them.
 #[repr(C)]
@@ -222,5 +222,15 @@ pub fn reset(s: State) -> State
     next.registers = registers;
     next.baud = baud;
     next.inputs = inputs;
+    next
+}
+
+// The state with the input pins as given.
+pub fn with_inputs(s: State, modem: u8, sin: u8) -> State
+    ensures { λ r. ⌜ r ≡ withInputs s (record { modem = modem; sin = sin }) ⌝ }
+{
+    let i = Inputs { modem, sin };
+    let mut next = s;
+    next.inputs = i;
     next
 }

@@ -4,13 +4,13 @@
 // A contract equates the whole answer with a definition of the device's `specs/Calls.antt`.
 use device::Answer;
 use device::Forecasted;
-use device::Inputs;
 use device::Leveled;
 use device::Looked;
 use device::Outputs;
 use device::Ran;
 use device::State;
 use device::autoflow;
+use device::with_inputs;
 use line::tick;
 use ranges::well_formed;
 use registers::msr;
@@ -18,7 +18,7 @@ use registers::pins::outputs;
 ghost use mathlib.Core.Path.{_≡_};
 ghost use Prim.Native.Nat.{ℕ, _≤_};
 ghost use Rattle.frame.specs.Format.{frameLength};
-ghost use Rattle.device.specs.State.{freshOf, withInputs};
+ghost use Rattle.device.specs.State.{freshOf};
 ghost use Rattle.device.specs.Pins.{noOutputs};
 ghost use Rattle.device.specs.Calls.{done as «done-of», refused as «refused-of», resetOf, readOf, writeOf, sinOf, modemOf, tickOf, ticksOf, ticksAnswer, pinsOf};
 ghost use Rattle.device.specs.Transmitter.{line};
@@ -127,16 +127,6 @@ pub fn write(s: State, address: u8, byte: u8) -> Answer
         return refused(BAD_ADDRESS, s);
     }
     done(registers::write_register(s, address, byte), 0)
-}
-
-// The state with the input pins as given.
-fn with_inputs(s: State, modem: u8, sin: u8) -> State
-    ensures { λ r. ⌜ r ≡ withInputs s (record { modem = modem; sin = sin }) ⌝ }
-{
-    let i = Inputs { modem, sin };
-    let mut next = s;
-    next.inputs = i;
-    next
 }
 
 // The pin SIN at a level.

@@ -1,0 +1,62 @@
+-- A replay that agrees: every read saw the model's byte, and the state is that of the steps one by one.
+use Prim.Native.Nat.{ℕ, suc}
+use mathlib.Core.Path.{_≡_, refl, sym, ap, _∙_}
+use mathlib.Core.Bool.{Bool, true, false, cond, not, _&&_, true≢false, false≢true}
+use mathlib.Core.List.{List, [], _∷_, _++_}
+use lib.Dec.{eqb}
+use lib.ListN.{length, getD, drop}
+use native.Mathlib.Omega.{arith}
+use borrow.Author.Tests.{eqb-true, not-false}
+use Rattle.recorder.specs.Record.{byte, good, isRead}
+use Rattle.device.specs.declared.State.{State}
+use Rattle.capture.specs.declared.Outcome.{Outcome}
+use Rattle.capture.specs.declared.Replayed.{Replayed}
+use Rattle.capture.specs.Replay.{differs, refused, stepOf, stepsOf, modelByte, differing, replayFrom, Agrees}
+
+-- An outcome is "agreed" or not.
+
+abbrev agreeing : Outcome → Bool
+agreeing Outcome.Agreed = true
+agreeing (Outcome.Differs place seen model) = false
+agreeing (Outcome.Refused number place) = false
+
+pub not-refused : {number place : ℕ} → Outcome.Refused number place ≡ Outcome.Agreed → ⊥
+not-refused e = false≢true (ap agreeing e)
+
+not-differs : {place seen model : ℕ} → Outcome.Differs place seen model ≡ Outcome.Agreed → ⊥
+not-differs e = false≢true (ap agreeing e)
+
+-- A read that does not differ saw the model's byte.
+saw : (s : State) (w : ℕ) → differing s w ≡ false → isRead w ≡ true → byte w ≡ modelByte s w
+unfolding differing
+saw s w d r =
+    let n : not (eqb (byte w) (modelByte s w)) ≡ false = simp r at d in
+    eqb-true (byte w) (modelByte s w) (not-false _ n)
+
+-- with the first record in front
+joined : (s : State) (w : ℕ) (ws : List ℕ) (end : State) → differing s w ≡ false → Agrees (stepOf s w) ws end → Agrees s (w ∷ ws) end
+joined s w ws end d a = record { reads = reads; steps = a .steps }
+  where
+    reads : (before : List ℕ) (v : ℕ) (after : List ℕ) → w ∷ ws ≡ before ++ (v ∷ after) → isRead v ≡ true → byte v ≡ modelByte (stepsOf before s) v
+    reads [] v after e r =
+        let same : w ≡ v = ap (λ (l : List ℕ). getD l 0 0) e in
+        saw s v (ap (differing s) (sym same) ∙ d) r
+    reads (b ∷ before) v after e r =
+        let same : w ≡ b = ap (λ (l : List ℕ). getD l 0 0) e in
+        a .reads before v after (ap (drop 1) e) r ∙ ap (λ (x : ℕ). modelByte (stepsOf before (stepOf s x)) v) same
+
+pub agrees : (ws : List ℕ) (place : ℕ) (s : State) → replayFrom place s ws .outcome ≡ Outcome.Agreed → Agrees s ws (replayFrom place s ws .state)
+unfolding replayFrom
+agrees [] place s e =
+    record { reads = λ before v after h r. absurd (nothing before v after h); steps = refl }
+  where
+    nothing : (before : List ℕ) (v : ℕ) (after : List ℕ) → [] ≡ before ++ (v ∷ after) → ⊥
+    nothing [] v after h = absurd (omega (arith, ap (length {A = ℕ}) h))
+    nothing (b ∷ before) v after h = absurd (omega (arith, ap (length {A = ℕ}) h))
+agrees (w ∷ ws) place s e = go (λ e. agrees ws (suc place) (stepOf s w) e) (good w) (differing s w) refl refl
+  where
+    go : (let rest = replayFrom (suc place) (stepOf s w) ws in rest .outcome ≡ Outcome.Agreed → Agrees (stepOf s w) ws (rest .state)) →
+        (g d : Bool) → good w ≡ g → differing s w ≡ d → Agrees s (w ∷ ws) (replayFrom place s (w ∷ ws) .state)
+    go later false d eg ed = absurd (not-refused (simp eg at e))
+    go later true true eg ed = absurd (not-differs (simp (eg, ed) at e))
+    go later true false eg ed = simp (eg, ed) (joined s w ws _ ed (later (simp (eg, ed) at e)))

@@ -1,0 +1,63 @@
+-- The refusals in their order: 1, then 7; else the records.
+use Rattle.capture.proofs.Agreed.{not-refused, agrees}
+use Rattle.capture.specs.declared.Replayed.{Replayed}
+use Rattle.capture.specs.Replay.{replayOf}
+use Prim.Native.Nat.{_-_}
+use mathlib.Core.Path.{sym, ap, _∙_}
+use borrow.Author.Tests.{not-true, not-false}
+use borrow.Author.Needs.{needs}
+use Rattle.capture.proofs.replay.Statement.{statement}
+use Rattle.capture.proofs.replay.Tie as tie
+use Rattle.capture.proofs.refused.Reads as refused-reads
+use Rattle.capture.proofs.replay_records.Reads as replay-records-reads
+use Rattle.ranges.proofs.well_formed.Reads as well-formed-reads
+use Rattle.recorder.proofs.file.known.Reads as known-reads
+
+well-formed-requires : tie.Need-well-formed-requires
+well-formed-requires c κs = search needs
+
+refused-requires : tie.Need-refused-requires
+refused-requires c κs = search needs
+
+returns : tie.Need-returns
+unfolding replayOf
+returns c = (
+  rw (c .refused .ensures) (simp (sym (c .before .before .well-formed .ensures) ∙ not-true _ (c .before .if1 .taken))),
+  λ e. absurd (not-refused (sym (ap (λ (r : Replayed). r .outcome) (c .refused .ensures)) ∙ e)),
+)
+
+known-requires : tie.Need-known-requires
+known-requires c κs = search needs
+
+refused-requires-2 : tie.Need-refused-requires-2
+refused-requires-2 c κs = search needs
+
+returns-2 : tie.Need-returns-2
+unfolding replayOf
+returns-2 c = (
+  rw (c .refused2 .ensures) (simp (sym (c .before .before .before .before .well-formed .ensures) ∙ not-false _ (c .before .before .before .if1 .left), sym (c .before .before .known .ensures) ∙ not-true _ (c .before .if2 .taken))),
+  λ e. absurd (not-refused (sym (ap (λ (r : Replayed). r .outcome) (c .refused2 .ensures)) ∙ e)),
+)
+
+replay-records-requires : tie.Need-replay-records-requires
+replay-records-requires c κs = sym (c .before .before .before .well-formed .ensures) ∙ not-false _ (c .before .before .if1 .left)
+
+returns-3 : tie.Need-returns-3
+unfolding replayOf
+returns-3 c = let all = c .replay-records .ensures in (
+  rw all (simp (sym (c .before .before .before .before .well-formed .ensures) ∙ not-false _ (c .before .before .before .if1 .left), sym (c .before .before .known .ensures) ∙ not-false _ (c .before .if2 .left))),
+  λ e. rw all (agrees _ 0 _ (sym (ap (λ (r : Replayed). r .outcome) all) ∙ e)),
+)
+
+pub replay-spec : {M : Type 1} → statement M
+replay-spec =
+    tie.close
+    (tie.spec
+    well-formed-requires
+    refused-requires
+    returns
+    known-requires
+    refused-requires-2
+    returns-2
+    replay-records-requires
+    returns-3)

@@ -1,0 +1,77 @@
+-- Replay of a run of records from a state (document 02 a).
+use Prim.Native.Nat.{ℕ, suc, _+_}
+use mathlib.Core.Path.{_≡_}
+use mathlib.Core.Bool.{Bool, true, cond, not, _&&_}
+use mathlib.Core.List.{List, [], _∷_, _++_}
+use lib.Dec.{eqb}
+use Rattle.recorder.specs.Record.{kind, byKind, count, address, byte, sin, modem, good, isRead}
+use Rattle.recorder.specs.File.{known}
+use Rattle.device.specs.declared.State.{State}
+use Rattle.device.specs.Ranges.{wellFormed}
+use Rattle.device.specs.Calls.{resetOf, readOf, writeOf, sinOf, modemOf, ticksOf}
+use Rattle.capture.specs.declared.Outcome.{Outcome}
+use Rattle.capture.specs.declared.Replayed.{Replayed}
+use Rattle.capture.specs.declared.Values.{Values}
+
+-- The answers: the state with "agreed", with the place, the byte seen and the model's byte, or with the number of a
+-- refusal and its place.
+
+abbrev pub agreed : State → Replayed
+agreed s = record { state = s; outcome = Outcome.Agreed }
+
+abbrev pub differs : State → ℕ → ℕ → ℕ → Replayed
+differs s place seen model = record { state = s; outcome = Outcome.Differs place seen model }
+
+abbrev pub refused : ℕ → State → ℕ → Replayed
+refused number s place = record { state = s; outcome = Outcome.Refused number place }
+
+-- document 01's number and values for each outcome: 0 where nothing is refused, and 0 for what is not named
+abbrev pub valuesOf : Outcome → Values
+valuesOf Outcome.Agreed = record { number = 0; place = 0; seen = 0; model = 0 }
+valuesOf (Outcome.Differs place seen model) = record { number = 0; place = place; seen = seen; model = model }
+valuesOf (Outcome.Refused number place) = record { number = number; place = place; seen = 0; model = 0 }
+
+-- the state after a good record: the call of document 01 that it stands for
+unfoldable pub stepOf : State → ℕ → State
+stepOf s w =
+    byKind (kind w)
+    (ticksOf (count w) s)
+    (readOf s (address w) .state)
+    (writeOf s (address w) (byte w) .state)
+    (sinOf s (sin w) .state)
+    (modemOf s (modem w) .state)
+    (resetOf s .state)
+    s
+
+-- the byte that the model answers at a read
+abbrev pub modelByte : State → ℕ → ℕ
+modelByte s w = readOf s (address w) .byte
+
+-- a read whose byte differs from the model's
+unfoldable pub differing : State → ℕ → Bool
+differing s w = isRead w && not (eqb (byte w) (modelByte s w))
+
+-- the records from a place on, which counts from 0 at the first: each is judged when it is reached, and the first that
+-- is bad, or a read that differs, ends the replay with the state before it
+unfoldable pub replayFrom : ℕ → State → List ℕ → Replayed
+replayFrom place s [] = agreed s
+replayFrom place s (w ∷ ws) =
+    cond (good w)
+    (cond (differing s w) (differs s place (byte w) (modelByte s w)) (replayFrom (suc place) (stepOf s w) ws))
+    (refused 8 s place)
+
+-- replay of records of a version: 1 for a state that is not well formed, then 7 for an unknown version
+unfoldable pub replayOf : ℕ → State → List ℕ → Replayed
+replayOf version s ws =
+    cond (wellFormed s) (cond (known version) (replayFrom 0 s ws) (refused 7 s 0)) (refused 1 s 0)
+
+-- the records' steps one by one
+abbrev pub stepsOf : List ℕ → State → State
+stepsOf [] s = s
+stepsOf (w ∷ ws) s = stepsOf ws (stepOf s w)
+
+-- what a replay that agrees says: every read saw what the model answers there, and the end state is that of the steps
+pub record Agrees (s : State) (words : List ℕ) (end : State) : Type 0 where
+  pub reads : (before : List ℕ) (w : ℕ) (after : List ℕ) → words ≡ before ++ (w ∷ after) → isRead w ≡ true →
+      byte w ≡ modelByte (stepsOf before s) w
+  pub steps : end ≡ stepsOf words s

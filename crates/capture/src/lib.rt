@@ -1,0 +1,142 @@
+// Captures: replay of the recorder's records from a state.
+//
+// The definitions that the contracts cite stand in `specs/Replay.antt`.
+pub mod step;
+
+use device::State;
+use ranges::well_formed;
+use recorder::file;
+use recorder::record;
+ghost use mathlib.Core.Path.{_≡_};
+ghost use mathlib.Core.Bool.{true};
+ghost use Rattle.device.specs.Ranges.{wellFormed};
+ghost use Rattle.capture.specs.Replay.{refused as «refused-at», valuesOf, replayFrom, replayOf, Agrees};
+
+// How a replay ended: every read agreed, one differs, or a refusal.
+pub enum Outcome {
+    Agreed,
+    Differs { place: usize, seen: u8, model: u8 },
+    Refused { number: u8, place: usize },
+}
+
+// What a replay answers: the state in which it ended, and how.
+pub struct Replayed {
+    pub state: State,
+    pub outcome: Outcome,
+}
+
+// An outcome as document 01's number and values.
+#[repr(C)]
+pub struct Values {
+    pub number: u8,
+    pub seen: u8,
+    pub model: u8,
+    pub place: usize,
+}
+
+// The numbers of the refusals.
+pub const MALFORMED: u8 = 1;
+
+pub const UNKNOWN_VERSION: u8 = 7;
+
+pub const BAD_RECORD: u8 = 8;
+
+// The number and the values of an outcome.
+pub fn values_of(o: Outcome) -> Values
+    ensures { λ r. ⌜ r ≡ valuesOf o ⌝ }
+{
+    match o {
+        Outcome::Agreed => Values {
+            number: 0,
+            seen: 0,
+            model: 0,
+            place: 0,
+        },
+        Outcome::Differs { place, seen, model } => Values {
+            number: 0,
+            seen,
+            model,
+            place,
+        },
+        Outcome::Refused { number, place } => Values {
+            number,
+            seen: 0,
+            model: 0,
+            place,
+        },
+    }
+}
+
+// The answer of a refusal: the state before the record at its place.
+fn refused(number: u8, s: State, place: usize) -> Replayed
+    ensures { λ r. ⌜ r ≡ «refused-at» number s place ⌝ }
+{
+    Replayed {
+        state: s,
+        outcome: Outcome::Refused { number, place },
+    }
+}
+
+// Replays records one by one from a well-formed state, up to the first that is bad or a read that
+// differs.
+fn replay_records(s: State, records: &[u32]) -> Replayed
+    requires { ⌜ wellFormed s ≡ true ⌝ }
+    ensures { λ r. ⌜ r ≡ replayFrom 0 s (now (records .entry)) ⌝ }
+{
+    let mut t = s;
+    let mut model: u8 = 0;
+    let mut i: usize = 0;
+    let place = loop {
+        if records.len() <= i {
+            break i;
+        }
+        let w = records[i];
+        if !record::good(w) {
+            break i;
+        }
+        if record::kind(w) != record::READ {
+            t = step::step(t, w);
+            i += 1;
+            continue;
+        }
+        let r = step::read(t, record::address(w));
+        model = r.byte;
+        if model != record::byte(w) {
+            break i;
+        }
+        t = r.state;
+        i += 1;
+    };
+    if records.len() <= place {
+        return Replayed {
+            state: t,
+            outcome: Outcome::Agreed,
+        };
+    }
+    let w = records[place];
+    if !record::good(w) {
+        return refused(BAD_RECORD, t, place);
+    }
+    Replayed {
+        state: t,
+        outcome: Outcome::Differs {
+            place,
+            seen: record::byte(w),
+            model,
+        },
+    }
+}
+
+// Replays records of a version from a state.
+pub fn replay(s: State, version: u32, records: &[u32]) -> Replayed
+    ensures { λ r. ⌜ r ≡ replayOf version s (now (records .entry)) ⌝ }
+    ensures { λ r. ⌜ (r .outcome ≡ Outcome.Agreed → Agrees s (now (records .entry)) (r .state)) ⌝ }
+{
+    if !well_formed(s) {
+        return refused(MALFORMED, s, 0);
+    }
+    if !file::known(version) {
+        return refused(UNKNOWN_VERSION, s, 0);
+    }
+    replay_records(s, records)
+}
