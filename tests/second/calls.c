@@ -3,23 +3,26 @@
  * answer each. It keeps one current state, fresh at the start. A line that is
  * not exactly one of the forms is answered `bad` and changes nothing.
  */
-#define _POSIX_C_SOURCE 200809L
+#include "capture.h"
+#include "stream.h"
 
-#include "model.h"
-
-#include <errno.h>
 #include <stdlib.h>
 #include <string.h>
-#include <unistd.h>
 
 #define BLOCK 65536u
-/* The longest valid line is `load` and 348 times a space and ten digits. */
-#define LONGEST_LINE (5u + UART_STATE_PLACES * 11u)
+#define MOST_WORDS 1024u
+#define MOST_NUMBERS (1u + MOST_WORDS)
+/* The longest valid line is `replay`, a version and 1,024 times a space and ten digits. */
+#define LONGEST_LINE (sizeof "replay 65535" - 1u + MOST_WORDS * 11u)
 /* The longest answer is 348 numbers, a space or the newline after each. */
 #define LONGEST_ANSWER (UART_STATE_PLACES * 11u)
 #define MOST_DIGITS 10u
 
 static struct uart current;
+
+/* The numbers of the line that is answered. */
+static uint32_t given[MOST_NUMBERS];
+static size_t given_count;
 
 /* ---- Output ---- */
 
@@ -28,18 +31,8 @@ static size_t out_used;
 
 static void flush_output(void)
 {
-    size_t written = 0;
-
-    while (written < out_used) {
-        ssize_t n = write(STDOUT_FILENO, out + written, out_used - written);
-
-        if (n < 0) {
-            if (errno == EINTR)
-                continue;
-            exit(EXIT_FAILURE);
-        }
-        written += (size_t)n;
-    }
+    if (!stream_write(out, out_used))
+        exit(EXIT_FAILURE);
     out_used = 0;
 }
 
@@ -96,116 +89,121 @@ static void put_value(struct uart_value v)
 
 /* ---- The calls ---- */
 
-static void call_fresh(const uint32_t *v)
+static void call_fresh(void)
 {
-    (void)v;
     uart_fresh(&current);
     put_done();
 }
 
 /* The state is 348 numbers of 32 bits without gaps, in the order of the protocol. */
-static void call_load(const uint32_t *v)
+static void call_load(void)
 {
-    memcpy(&current, v, sizeof current);
+    memcpy(&current, given, sizeof current);
     put_done();
 }
 
-static void call_state(const uint32_t *v)
+static void call_state(void)
 {
     uint32_t places[UART_STATE_PLACES];
 
-    (void)v;
     memcpy(places, &current, sizeof places);
     put_numbers(places, UART_STATE_PLACES);
 }
 
-static void call_reset(const uint32_t *v)
+static void call_reset(void)
 {
-    (void)v;
     put_step(uart_reset(&current));
 }
 
-static void call_read(const uint32_t *v)
+static void call_read(void)
 {
-    put_step(uart_read(&current, v[0]));
+    put_step(uart_read(&current, given[0]));
 }
 
-static void call_write(const uint32_t *v)
+static void call_write(void)
 {
-    put_step(uart_write(&current, v[0], (uint8_t)v[1]));
+    put_step(uart_write(&current, given[0], (uint8_t)given[1]));
 }
 
-static void call_sin(const uint32_t *v)
+static void call_sin(void)
 {
-    put_step(uart_set_sin(&current, v[0]));
+    put_step(uart_set_sin(&current, given[0]));
 }
 
-static void call_modem(const uint32_t *v)
+static void call_modem(void)
 {
-    put_step(uart_set_modem(&current, v[0]));
+    put_step(uart_set_modem(&current, given[0]));
 }
 
-static void call_tick(const uint32_t *v)
+static void call_tick(void)
 {
-    (void)v;
     put_step(uart_tick(&current));
 }
 
-static void call_ticks(const uint32_t *v)
+static void call_ticks(void)
 {
-    put_step(uart_ticks(&current, v[0]));
+    put_step(uart_ticks(&current, given[0]));
 }
 
-static void call_pins(const uint32_t *v)
+static void call_pins(void)
 {
     struct uart_answer a = uart_look(&current);
     uint32_t numbers[] = { a.number,    a.pins.sout, a.pins.rts,   a.pins.dtr,
                            a.pins.out1, a.pins.out2, a.pins.intrpt };
 
-    (void)v;
     put_numbers(numbers, sizeof numbers / sizeof numbers[0]);
 }
 
-static void call_forecast(const uint32_t *v)
+static void call_forecast(void)
 {
-    (void)v;
     put_value(uart_forecast(&current));
 }
 
-static void call_level(const uint32_t *v)
+static void call_level(void)
 {
-    put_value(uart_level(&current, v[0]));
+    put_value(uart_level(&current, given[0]));
 }
 
-static void call_run(const uint32_t *v)
+static void call_run(void)
 {
-    put_value(uart_run(&current, v[0]));
+    put_value(uart_run(&current, given[0]));
 }
 
-/* A form: its word, how many numbers follow, and the range of each. */
+/* The first number is the version, the others are records. */
+static void call_replay(void)
+{
+    out_used += replay_line(replay(&current, given[0], given + 1, given_count - 1), out + out_used);
+}
+
+/*
+ * A form: its word, how many numbers follow and the range of each, and how many
+ * words of any 32 bits may come after these.
+ */
 struct form {
     const char *word;
     size_t numbers;
     uint32_t least;
     uint32_t most;
-    void (*call)(const uint32_t *numbers);
+    size_t words;
+    void (*call)(void);
 };
 
 static const struct form forms[] = {
-    { "tick", 0, 0, 0, call_tick },
-    { "ticks", 1, 1, UINT32_MAX, call_ticks },
-    { "read", 1, 0, 255, call_read },
-    { "write", 2, 0, 255, call_write },
-    { "sin", 1, 0, 255, call_sin },
-    { "modem", 1, 0, 255, call_modem },
-    { "state", 0, 0, 0, call_state },
-    { "level", 1, 0, UINT32_MAX, call_level },
-    { "forecast", 0, 0, 0, call_forecast },
-    { "pins", 0, 0, 0, call_pins },
-    { "run", 1, 0, UINT32_MAX, call_run },
-    { "load", UART_STATE_PLACES, 0, UINT32_MAX, call_load },
-    { "fresh", 0, 0, 0, call_fresh },
-    { "reset", 0, 0, 0, call_reset },
+    { "tick", 0, 0, 0, 0, call_tick },
+    { "ticks", 1, 1, UINT32_MAX, 0, call_ticks },
+    { "read", 1, 0, 255, 0, call_read },
+    { "write", 2, 0, 255, 0, call_write },
+    { "sin", 1, 0, 255, 0, call_sin },
+    { "modem", 1, 0, 255, 0, call_modem },
+    { "state", 0, 0, 0, 0, call_state },
+    { "level", 1, 0, UINT32_MAX, 0, call_level },
+    { "forecast", 0, 0, 0, 0, call_forecast },
+    { "pins", 0, 0, 0, 0, call_pins },
+    { "run", 1, 0, UINT32_MAX, 0, call_run },
+    { "load", UART_STATE_PLACES, 0, UINT32_MAX, 0, call_load },
+    { "fresh", 0, 0, 0, 0, call_fresh },
+    { "reset", 0, 0, 0, 0, call_reset },
+    { "replay", 1, 0, 65535, MOST_WORDS, call_replay },
 };
 
 /* ---- Lines ---- */
@@ -239,15 +237,32 @@ static const char *take_number(const char *at, const char *end, uint32_t *number
     return at;
 }
 
-/* Exactly the form's numbers, one space before each, up to the line's end. */
-static bool take_numbers(const char *at, const char *end, const struct form *form,
-                         uint32_t *numbers)
+/* A space and a number in its range. Returns the place after it, or NULL. */
+static const char *take_given(const char *at, const char *end, uint32_t least, uint32_t most)
 {
-    for (size_t i = 0; i < form->numbers; i++) {
-        if (at == end || *at != ' ')
+    uint32_t *number = &given[given_count];
+
+    if (at == end || *at != ' ')
+        return NULL;
+    at = take_number(at + 1, end, number);
+    if (at == NULL || *number < least || *number > most)
+        return NULL;
+    given_count++;
+    return at;
+}
+
+/* Exactly the form's numbers, then at most its words, up to the line's end. */
+static bool take_numbers(const char *at, const char *end, const struct form *form)
+{
+    given_count = 0;
+    while (given_count < form->numbers) {
+        at = take_given(at, end, form->least, form->most);
+        if (at == NULL)
             return false;
-        at = take_number(at + 1, end, &numbers[i]);
-        if (at == NULL || numbers[i] < form->least || numbers[i] > form->most)
+    }
+    while (at != end && given_count < form->numbers + form->words) {
+        at = take_given(at, end, 0u, UINT32_MAX);
+        if (at == NULL)
             return false;
     }
     return at == end;
@@ -256,15 +271,14 @@ static bool take_numbers(const char *at, const char *end, const struct form *for
 /* Makes the call of one line, without its newline. False if it is none of the forms. */
 static bool answer_line(const char *line, size_t length)
 {
-    static uint32_t numbers[UART_STATE_PLACES];
     const char *end = line + length;
     const char *space = memchr(line, ' ', length);
     const char *word_end = space != NULL ? space : end;
     const struct form *form = find_form(line, (size_t)(word_end - line));
 
-    if (form == NULL || !take_numbers(word_end, end, form, numbers))
+    if (form == NULL || !take_numbers(word_end, end, form))
         return false;
-    form->call(numbers);
+    form->call();
     return true;
 }
 
@@ -307,12 +321,7 @@ int main(void)
     ssize_t n;
 
     uart_fresh(&current);
-    for (;;) {
-        n = read(STDIN_FILENO, in + in_used, sizeof in - in_used);
-        if (n < 0 && errno == EINTR)
-            continue;
-        if (n <= 0)
-            break;
+    while ((n = stream_read(in + in_used, sizeof in - in_used)) > 0) {
         in_used += (size_t)n;
         answer_whole_lines();
         flush_output();

@@ -29,6 +29,7 @@
 #define IIR_RX_DATA 0x04u
 #define IIR_LINE_STATUS 0x06u
 #define IIR_TIMEOUT 0x0Cu
+#define IIR_CODE 0x0Fu
 #define IIR_SIZE64 0x20u
 #define IIR_FIFO_ON 0xC0u
 
@@ -408,14 +409,11 @@ static void clear_transmit_queue(struct uart *u)
     u->tx_empty_latch = 1u;
 }
 
-static uint32_t take_receive_byte(struct uart *u)
+static void remove_oldest_entry(struct uart *u)
 {
-    uint32_t byte = u->rx_queue[0].byte;
-
     u->rx_count--;
     memmove(&u->rx_queue[0], &u->rx_queue[1], u->rx_count * sizeof u->rx_queue[0]);
     memset(&u->rx_queue[u->rx_count], 0, sizeof u->rx_queue[0]);
-    return byte;
 }
 
 /* Clears time-out latch and idle count too, and not OE. A character being received goes on. */
@@ -499,25 +497,13 @@ static void record_changes(struct uart *u, uint32_t before)
     u->changes |= before & ~after & MODEM_RI;
 }
 
-/* ---- Register reads ("Registers") ---- */
+/* ---- Register reads ("Registers"): the byte a read gives ---- */
 
-/* The oldest byte, which is removed; time-out latch and idle count go to 0. Empty: 0 (h). */
-static uint32_t read_rbr(struct uart *u)
-{
-    if (u->rx_count == 0u)
-        return 0u;
-    u->timeout_latch = 0u;
-    u->idle_count = 0u;
-    return take_receive_byte(u);
-}
-
-/* Code, plus C0 with FIFO on, plus 20 if the size is 64 too. Answering 02 clears the latch. */
-static uint32_t read_iir(struct uart *u)
+/* Code, plus C0 with FIFO on, plus 20 if the size is 64 too. */
+static uint32_t iir_byte(const struct uart *u)
 {
     uint32_t code = interrupt_code(u);
 
-    if (code == IIR_TX_EMPTY)
-        u->tx_empty_latch = 0u;
     if (u->fifo_on == 0u)
         return code;
     return code | IIR_FIFO_ON | (u->size64 != 0u ? IIR_SIZE64 : 0u);
@@ -531,10 +517,9 @@ static bool any_entry_has_error(const struct uart *u)
     return false;
 }
 
-/* The bits as they are; then OE and the oldest entry's errors are cleared. */
-static uint32_t read_lsr(struct uart *u)
+static uint32_t lsr_byte(const struct uart *u)
 {
-    struct uart_entry *oldest = &u->rx_queue[0];
+    const struct uart_entry *oldest = &u->rx_queue[0];
     uint32_t lsr = 0u;
 
     if (u->rx_count != 0u)
@@ -553,43 +538,88 @@ static uint32_t read_lsr(struct uart *u)
         lsr |= LSR_TX_EMPTY;
     if (u->fifo_on != 0u && any_entry_has_error(u))
         lsr |= LSR_FIFO_ERROR;
-
-    u->overrun = 0u;
-    oldest->pe = 0u;
-    oldest->fe = 0u;
-    oldest->bi = 0u;
     return lsr;
 }
 
-/* Bits 4..7 the effective levels, 0..3 their changes, which are then cleared. */
-static uint32_t read_msr(struct uart *u)
+/* Bits 4..7 the effective levels, 0..3 their changes. */
+static uint32_t msr_byte(const struct uart *u)
 {
-    uint32_t msr = (effective_modem(u) << MSR_LEVEL_SHIFT) | u->changes;
-
-    u->changes = 0u;
-    return msr;
+    return (effective_modem(u) << MSR_LEVEL_SHIFT) | u->changes;
 }
 
-static uint32_t read_register(struct uart *u, uint32_t address)
+/* RBR is the oldest byte; empty: 0 (h), as every place beyond the count is zero. */
+uint32_t uart_peek(const struct uart *u, uint32_t address)
 {
     switch (address) {
     case ADDR_DATA:
-        return divisor_access(u) ? u->divisor & 0xFFu : read_rbr(u);
+        return divisor_access(u) ? u->divisor & 0xFFu : u->rx_queue[0].byte;
     case ADDR_IER:
         return divisor_access(u) ? u->divisor >> 8 : u->ier;
     case ADDR_IIR_FCR:
-        return read_iir(u);
+        return iir_byte(u);
     case ADDR_LCR:
         return u->lcr;
     case ADDR_MCR:
         return u->mcr;
     case ADDR_LSR:
-        return read_lsr(u);
+        return lsr_byte(u);
     case ADDR_MSR:
-        return read_msr(u);
+        return msr_byte(u);
     default:
         return u->scr;
     }
+}
+
+/* ---- Register reads: what a read changes ---- */
+
+/* The oldest byte is removed; time-out latch and idle count go to 0. Empty: nothing changes (h). */
+static void end_rbr_read(struct uart *u)
+{
+    if (u->rx_count == 0u)
+        return;
+    u->timeout_latch = 0u;
+    u->idle_count = 0u;
+    remove_oldest_entry(u);
+}
+
+/* Answering 02 clears the latch. */
+static void end_iir_read(struct uart *u, uint32_t iir)
+{
+    if ((iir & IIR_CODE) == IIR_TX_EMPTY)
+        u->tx_empty_latch = 0u;
+}
+
+/* OE and the oldest entry's errors are cleared. */
+static void end_lsr_read(struct uart *u)
+{
+    struct uart_entry *oldest = &u->rx_queue[0];
+
+    u->overrun = 0u;
+    oldest->pe = 0u;
+    oldest->fe = 0u;
+    oldest->bi = 0u;
+}
+
+void uart_end_read(struct uart *u, uint32_t address, uint32_t byte)
+{
+    switch (address) {
+    case ADDR_DATA:
+        if (!divisor_access(u))
+            end_rbr_read(u);
+        break;
+    case ADDR_IIR_FCR:
+        end_iir_read(u, byte);
+        break;
+    case ADDR_LSR:
+        end_lsr_read(u);
+        break;
+    case ADDR_MSR:
+        u->changes = 0u;
+        break;
+    default:
+        break;
+    }
+    end_step(u);
 }
 
 /* ---- Register writes ("Registers") ---- */
@@ -889,6 +919,57 @@ static inline void tick(struct uart *u)
     pulse(u);
 }
 
+/* ---- The steps, unchecked ---- */
+
+/* Fresh: SIN 1, all else 0. */
+void uart_fresh(struct uart *u)
+{
+    memset(u, 0, sizeof *u);
+    u->sin = 1u;
+}
+
+/* Reset gives the fresh state but keeps SCR, D, both pin inputs, and sets k = D. */
+void uart_do_reset(struct uart *u)
+{
+    uint32_t scr = u->scr;
+    uint32_t divisor = u->divisor;
+    uint32_t modem_pins = u->modem_pins;
+    uint32_t sin = u->sin;
+
+    uart_fresh(u);
+    u->scr = scr;
+    write_divisor(u, divisor);
+    u->modem_pins = modem_pins;
+    u->sin = sin;
+}
+
+void uart_do_write(struct uart *u, uint32_t address, uint32_t byte)
+{
+    write_register(u, address, byte);
+    end_step(u);
+}
+
+void uart_do_sin(struct uart *u, uint32_t level)
+{
+    u->sin = level;
+    end_step(u);
+}
+
+void uart_do_modem(struct uart *u, uint32_t pins)
+{
+    uint32_t before = effective_modem(u);
+
+    u->modem_pins = pins;
+    record_changes(u, before);
+    end_step(u);
+}
+
+void uart_do_ticks(struct uart *u, uint32_t count)
+{
+    for (uint32_t i = 0u; i < count; i++)
+        tick(u);
+}
+
 /* ---- The calls ---- */
 
 static struct uart_answer refuse(uint32_t number)
@@ -916,28 +997,11 @@ static struct uart_value value(uint32_t number, uint32_t v)
     return result;
 }
 
-/* Fresh: SIN 1, all else 0. */
-void uart_fresh(struct uart *u)
-{
-    memset(u, 0, sizeof *u);
-    u->sin = 1u;
-}
-
-/* Reset gives the fresh state but keeps SCR, D, both pin inputs, and sets k = D. */
 struct uart_answer uart_reset(struct uart *u)
 {
-    uint32_t scr = u->scr;
-    uint32_t divisor = u->divisor;
-    uint32_t modem_pins = u->modem_pins;
-    uint32_t sin = u->sin;
-
     if (!uart_well_formed(u))
         return refuse(UART_MALFORMED);
-    uart_fresh(u);
-    u->scr = scr;
-    write_divisor(u, divisor);
-    u->modem_pins = modem_pins;
-    u->sin = sin;
+    uart_do_reset(u);
     return done(u, 0u);
 }
 
@@ -949,8 +1013,8 @@ struct uart_answer uart_read(struct uart *u, uint32_t address)
         return refuse(UART_MALFORMED);
     if (address > ADDR_LAST)
         return refuse(UART_BAD_ADDRESS);
-    byte = read_register(u, address);
-    end_step(u);
+    byte = uart_peek(u, address);
+    uart_end_read(u, address, byte);
     return done(u, byte);
 }
 
@@ -960,8 +1024,7 @@ struct uart_answer uart_write(struct uart *u, uint32_t address, uint8_t byte)
         return refuse(UART_MALFORMED);
     if (address > ADDR_LAST)
         return refuse(UART_BAD_ADDRESS);
-    write_register(u, address, byte);
-    end_step(u);
+    uart_do_write(u, address, byte);
     return done(u, 0u);
 }
 
@@ -971,23 +1034,17 @@ struct uart_answer uart_set_sin(struct uart *u, uint32_t level)
         return refuse(UART_MALFORMED);
     if (level > 1u)
         return refuse(UART_BAD_LEVEL);
-    u->sin = level;
-    end_step(u);
+    uart_do_sin(u, level);
     return done(u, 0u);
 }
 
 struct uart_answer uart_set_modem(struct uart *u, uint32_t pins)
 {
-    uint32_t before;
-
     if (!uart_well_formed(u))
         return refuse(UART_MALFORMED);
     if (pins > MODEM_MASK)
         return refuse(UART_BAD_LEVEL);
-    before = effective_modem(u);
-    u->modem_pins = pins;
-    record_changes(u, before);
-    end_step(u);
+    uart_do_modem(u, pins);
     return done(u, 0u);
 }
 
@@ -1001,8 +1058,7 @@ struct uart_answer uart_ticks(struct uart *u, uint32_t count)
 {
     if (!uart_well_formed(u))
         return refuse(UART_MALFORMED);
-    for (uint32_t i = 0u; i < count; i++)
-        tick(u);
+    uart_do_ticks(u, count);
     return done(u, 0u);
 }
 

@@ -102,6 +102,20 @@ struct uart_value {
     uint32_t value;
 };
 
+/*
+ * The steps without their checks, for a caller who has checked the state and the
+ * arguments: each leaves a well-formed state well formed. A read is two of them:
+ * the byte it gives, and what giving it changes.
+ */
+void uart_fresh(struct uart *u);
+void uart_do_reset(struct uart *u);
+uint32_t uart_peek(const struct uart *u, uint32_t address);
+void uart_end_read(struct uart *u, uint32_t address, uint32_t byte);
+void uart_do_write(struct uart *u, uint32_t address, uint32_t byte);
+void uart_do_sin(struct uart *u, uint32_t level);
+void uart_do_modem(struct uart *u, uint32_t pins);
+void uart_do_ticks(struct uart *u, uint32_t count);
+
 /* Whether a state obeys every range of document 01, section "The state". */
 bool uart_well_formed(const struct uart *u);
 
@@ -109,7 +123,6 @@ bool uart_well_formed(const struct uart *u);
  * The calls. Each first checks the state and its arguments; on a refusal the
  * state stays as it was and the other results are 0.
  */
-void uart_fresh(struct uart *u);
 struct uart_answer uart_reset(struct uart *u);
 struct uart_answer uart_read(struct uart *u, uint32_t address);
 struct uart_answer uart_write(struct uart *u, uint32_t address, uint8_t byte);

@@ -1,0 +1,32 @@
+/* Standard input and output; a call that a signal broke off is made again. */
+#define _POSIX_C_SOURCE 200809L
+
+#include "stream.h"
+
+#include <errno.h>
+#include <unistd.h>
+
+ssize_t stream_read(void *buffer, size_t size)
+{
+    ssize_t n;
+
+    do
+        n = read(STDIN_FILENO, buffer, size);
+    while (n < 0 && errno == EINTR);
+    return n;
+}
+
+bool stream_write(const char *bytes, size_t length)
+{
+    while (length > 0) {
+        ssize_t n = write(STDOUT_FILENO, bytes, length);
+
+        if (n < 0 && errno != EINTR)
+            return false;
+        if (n > 0) {
+            bytes += n;
+            length -= (size_t)n;
+        }
+    }
+    return true;
+}

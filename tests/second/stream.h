@@ -1,0 +1,15 @@
+/* Standard input and output, in whole pieces, whatever a read or write takes at a time. */
+#ifndef STREAM_H
+#define STREAM_H
+
+#include <stdbool.h>
+#include <stddef.h>
+#include <sys/types.h>
+
+/* What is there, up to size bytes; 0 at the end of the input, -1 where reading failed. */
+ssize_t stream_read(void *buffer, size_t size);
+
+/* False where writing failed. */
+bool stream_write(const char *bytes, size_t length);
+
+#endif
