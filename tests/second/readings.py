@@ -9,7 +9,8 @@ usage: readings.py PROGRAM
 import sys
 
 import states as st
-from rows import FCR, IER, IIR, LCR, LSR, MCR, MSR, RBR, THR, Rows, clocked, fifo16
+from rows import Rows, clocked, fifo16
+from steps import FCR, IER, IIR, LCR, LSR, MCR, MSR, RBR, THR
 
 
 def fifo(s, size64=0, code=0):

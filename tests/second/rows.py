@@ -8,8 +8,7 @@ import subprocess
 import sys
 
 import states as st
-
-RBR, THR, IER, IIR, FCR, LCR, MCR, LSR, MSR, SCR = 0, 0, 1, 2, 2, 3, 4, 5, 6, 7
+from steps import FCR, IIR, LCR, LSR, MSR, RBR, THR
 
 
 class Rows:

@@ -15,16 +15,18 @@ import readings
 import rows
 import states as st
 from states import BIGGEST
+from steps import FCR, IER, IIR, LCR, LSR, MCR, MSR, RBR, SCR, THR, Steps
 
-RBR, THR, IER, IIR, FCR, LCR, MCR, LSR, MSR, SCR = 0, 0, 1, 2, 2, 3, 4, 5, 6, 7
 
-
-class Script:
+class Script(Steps):
     """The lines of one script."""
 
     def __init__(self):
         self.lines = []
         self.last_newline = True
+
+    def step(self, line):
+        self.lines.append(line)
 
     def raw(self, *lines):
         self.lines.extend(lines)
@@ -35,27 +37,6 @@ class Script:
     def load(self, s):
         self.raw(st.load_line(s))
 
-    def read(self, *addresses):
-        for a in addresses:
-            self.raw("read %d" % a)
-
-    def write(self, address, *data):
-        for byte in data:
-            self.raw("write %d %d" % (address, byte))
-
-    def ticks(self, n):
-        if n == 1:
-            self.raw("tick")
-        elif n > 1:
-            self.raw("ticks %d" % n)
-
-    def sin(self, level):
-        self.raw("sin %d" % level)
-
-    def modem(self, *levels):
-        for level in levels:
-            self.raw("modem %d" % level)
-
     def level(self, *times):
         for t in times:
             self.raw("level %d" % t)
@@ -63,27 +44,6 @@ class Script:
     def run(self, *counts):
         for n in counts:
             self.raw("run %d" % n)
-
-    def divisor(self, d, lcr):
-        """Sets the divisor and leaves LCR as given."""
-        self.write(LCR, 0x80)
-        self.write(0, d & 255)
-        self.write(1, d >> 8)
-        self.write(LCR, lcr)
-
-    def bits(self, bits, d=1):
-        """Levels on SIN, 16 pulses each; equal neighbours in one go."""
-        at = 0
-        while at < len(bits):
-            end = at
-            while end < len(bits) and bits[end] == bits[at]:
-                end += 1
-            self.sin(bits[at])
-            self.ticks(16 * (end - at) * d)
-            at = end
-
-    def character(self, byte, form, d=1):
-        self.bits(st.frame_bits(byte, form), d)
 
     def up_to_stop_sample(self, bits):
         """A character up to one pulse before its stop sample, D = 1; then that pulse."""

@@ -1,0 +1,76 @@
+"""Records captures from the second program: every step is made by its `calls`, in one process, and
+becomes a record; the byte of a read is the one answered."""
+
+import os
+import subprocess
+import sys
+
+from steps import Steps
+
+sys.path.insert(0, os.path.join(os.path.dirname(os.path.abspath(__file__)), "..", "..", "tools"))
+
+import utr  # noqa: E402  (found by the path above)
+
+# Lines sent ahead of their answers; both have to fit into a pipe.
+AHEAD = 500
+
+
+class Recorder(Steps):
+    """A device from the fresh state on, and the records of what was done with it."""
+
+    def __init__(self, calls):
+        self.child = subprocess.Popen([calls], stdin=subprocess.PIPE, stdout=subprocess.PIPE)
+        self.records = []
+        self.unanswered = []  # for each line sent, the place of its read, or None
+        self.start()
+
+    def start(self, line="fresh"):
+        """A new capture, from the state that the line makes."""
+        self.settle()
+        self.records = []
+        self.send(line)
+
+    def send(self, line, place=None):
+        self.child.stdin.write(line.encode() + b"\n")
+        self.unanswered.append(place)
+        if len(self.unanswered) >= AHEAD:
+            self.settle()
+
+    def settle(self):
+        """Takes the answers that are due and puts the bytes read into their records."""
+        self.child.stdin.flush()
+        for place in self.unanswered:
+            answer = self.child.stdout.readline().split()
+            if place is not None:
+                self.records[place] |= int(answer[1])
+        self.unanswered = []
+
+    def step(self, line):
+        """A step in the text protocol, as its record or, for many ticks, records."""
+        name, *numbers = line.split(" ")
+        numbers = [int(number) for number in numbers]
+        place = None
+        if name in ("tick", "ticks"):
+            self.records += utr.ticks(numbers[0] if numbers else 1)
+        elif name == "read":
+            place = len(self.records)
+            self.records.append(utr.record(utr.READ, numbers[0], 0))
+        else:
+            self.records.append(utr.record(utr.NAMES.index(name), *numbers))
+        self.send(line, place)
+
+    def byte(self, address):
+        """A read whose byte is needed at once."""
+        self.read(address)
+        self.settle()
+        return self.records[-1] & 255
+
+    def taken(self):
+        """The records so far."""
+        self.settle()
+        return list(self.records)
+
+    def close(self):
+        self.child.stdin.close()
+        self.child.stdout.close()
+        self.child.wait()
