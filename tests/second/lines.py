@@ -12,6 +12,10 @@ import threading
 TICK = b"0 0 1 0 0 0 0 0\n"
 BAD = b"bad\n"
 LARGEST = b"load" + b" 4294967295" * 348
+AGREED = b"agreed\n"
+READ_LSR = b" %d" % 0x10000560  # agrees on a fresh device
+MOST_WORDS = 1024
+LONGEST = b"replay 65535" + b" 4294967295" * MOST_WORDS
 
 CASES = [
     (b"", b""), (b"\n", BAD), (b"\n\n", BAD * 2), (b"tick", TICK), (b"tick\n", TICK),
@@ -34,7 +38,22 @@ CASES = [
     (LARGEST + b" \n", BAD), (LARGEST + b"1\n", BAD), (LARGEST + b" 1\n", BAD),
     (b"load" + b" 0" * 347, BAD), (b"load" + b" 0" * 349, BAD), (b"load" + b" 0" * 348, b"0\n"),
 ]
-for length in (3831, 3832, 3833, 3834, 65535, 65536, 65537, 131072):
+CASES += [
+    (b"replay 1\n", AGREED), (b"replay 1", AGREED), (b"replay\n", BAD), (b"replay \n", BAD),
+    (b"replay 1 \n", BAD), (b"replay  1\n", BAD), (b"replay 01\n", BAD), (b"replay 1 00\n", BAD),
+    (b"replay 1  0\n", BAD), (b"replay 1 0 \n", BAD), (b"replay 1 -1\n", BAD), (b"replay x\n", BAD),
+    (b"replay 0\nreplay 2\nreplay 65535\n", b"refused 7 0\n" * 3), (b"replay 65536\n", BAD),
+    (b"replay 1 0 65535\n", AGREED), (b"replay 1 65536\n", b"refused 8 0\n"),
+    (b"replay 1 0 4294967295\n", b"refused 8 1\n"), (b"replay 1 4294967296\n", BAD),
+    (b"replay 1" + READ_LSR + b" %d\n" % 0x10000561, b"differs 1 97 96\n"),
+    (b"replay 1" + READ_LSR * MOST_WORDS + b"\n", AGREED),
+    (b"replay 1" + READ_LSR * (MOST_WORDS + 1) + b"\n", BAD),
+    (b"replay 2" + b" 0" * (MOST_WORDS + 1) + b"\n", BAD), (b"replay 1" + b" 0" * 5000 + b"\n", BAD),
+    (LONGEST + b"\n", b"refused 7 0\n"), (LONGEST, b"refused 7 0\n"), (LONGEST + b" \n", BAD),
+    (LONGEST + b"1\n", BAD), (LONGEST[:-1] + b"6\n", BAD),
+    (b"replay 1" + b" 4294967295" * MOST_WORDS + b"\ntick\n", b"refused 8 0\n" + TICK),
+]
+for length in (3831, 3832, 3833, 3834, 11275, 11276, 11277, 65535, 65536, 65537, 131072):
     CASES += [(b"y" * length, BAD), (b"y" * length + b"\n", BAD),
               (b"y" * length + b"\ntick", BAD + TICK)]
 
@@ -84,7 +103,8 @@ def main():
             print("%r answered %r, should be %r" % (text[:60], got[:60], want[:60]))
             wrong += 1
     pick = random.Random(3)
-    choices = (b"tick", b"read 5", b"", LARGEST, b"fresh", b"state", b"level 3", b"z" * 7000)
+    choices = (b"tick", b"read 5", b"", LARGEST, b"fresh", b"state", b"level 3", b"z" * 7000, LONGEST,
+               b"replay 1" + READ_LSR * MOST_WORDS)
     lines = [pick.choice(choices) for _ in range(300)]
     text = b"\n".join(lines)
     whole = answers(program, text)

@@ -20,6 +20,7 @@ STEPS = ("reset", "tick", "ticks 3", "read 0", "read 2", "read 5", "read 6", "wr
 CALLS = ("read 0", "read 8", "write 0 1", "write 9 1", "sin 0", "sin 2", "modem 1", "modem 16",
          "tick", "ticks 2", "reset")
 VALUES = ("forecast", "level 0", "level 7", "run 0", "run 9")
+REPLAYS = ("replay 1", "replay 1 4294967295", "replay 2 1")
 NO_STEP = "1 0 0 0 0 0 0 0"
 NO_PINS = "1 0 0 0 0 0 0"
 
@@ -58,6 +59,7 @@ def refused(s):
     script += [(call, NO_STEP) for call in CALLS]
     script += [("pins", NO_PINS)]
     script += [(call, "1 0") for call in VALUES]
+    script += [(call, "refused 1 0") for call in REPLAYS]
     return script + [("state", line[5:])]
 
 

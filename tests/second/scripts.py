@@ -11,9 +11,11 @@ import os
 import random
 import sys
 
+import captures
 import readings
 import rows
 import states as st
+from recorder import utr
 from states import BIGGEST
 from steps import FCR, IER, IIR, LCR, LSR, MCR, MSR, RBR, SCR, THR, Steps
 
@@ -44,6 +46,10 @@ class Script(Steps):
     def run(self, *counts):
         for n in counts:
             self.raw("run %d" % n)
+
+    def replay(self, words, version=1):
+        """A replay, and the state it leaves."""
+        self.raw(" ".join(map(str, ["replay", version, *words])), "state")
 
     def up_to_stop_sample(self, bits):
         """A character up to one pulse before its stop sample, D = 1; then that pulse."""
@@ -1193,6 +1199,8 @@ BAD_LINES = (
     "load " + " 0" * 348, "load" + " 0" * 347 + " 4294967296", "load" + " 0" * 347 + " 00",
     "load" + " 0" * 347 + " x", "load" + " 0" * 100 + "  0" + " 0" * 247, "load 0,0",
     "LOAD" + " 0" * 348, "load" + "\t0" * 348,
+    "replay", "replay ", "replay 65536", "replay 01", "replay 1 ", "replay 1  0", "replay 1 00",
+    "replay 1 4294967296", "replay 1 x", "replay 1 -1", "replay -1", "Replay 1", "replay 1\t0",
     "help", "quit", "exit", "?", "#", "# fresh", ";", "tick;tick", "read 5;", "'tick'", "0", "1 2",
     "x" * 3832, "x" * 3833, "x" * 3834, "x" * 9000, "tick" + " " * 5000, "level " + "0" * 5000,
     " " * 4000, "load" + " 4294967295" * 349,
@@ -1383,6 +1391,52 @@ def driver(q):
         q.raw("state")
 
 
+LSR_60 = utr.record(utr.READ, LSR, 0x60)
+LSR_00 = utr.record(utr.READ, LSR, 0x00)
+
+
+def replays(q):
+    """Every outcome, the state it leaves, the order of the refusals, long lines."""
+    steps = [utr.record(utr.WRITE, SCR, 0x5A), utr.record(utr.SIN, 0), utr.record(utr.MODEM, 9),
+             utr.record(utr.READ, MSR, 0x99), utr.record(utr.READ, SCR, 0x5A)]
+    q.replay([])
+    q.replay(steps + [LSR_60, LSR_60])
+    q.replay([utr.record(utr.RESET), utr.record(utr.READ, MSR, 0x90), LSR_60])
+    # The differing read is not done: OE and the oldest entry's errors stay, RBR keeps its byte.
+    s = with_received(with_fifo(clocked(d=3)), 2, ((0, (1, 0, 0)), (1, (0, 1, 1))))
+    s[st.OE], s[st.TX_LATCH], s[st.IER], s[st.CHANGES] = 1, 1, 2, 10
+    for address, byte in ((LSR, 0xE7), (RBR, 0x30), (IIR, 0xC2), (MSR, 0x0A)):
+        for flip in (0, 1, 0x80):
+            q.load(s)
+            q.replay([utr.record(utr.READ, address, byte ^ flip), 0xFFFFFFFF])
+    # Ticks: none, one, many; the state before a bad record or a difference is the one after them.
+    for count in (0, 1, 3, 65535):
+        for last in ([], [0x60000000], [LSR_60]):
+            q.load(with_queued(with_fifo(clocked(d=3)), 0x41, 0x42))
+            q.replay([utr.record(utr.TICKS, count)] + last)
+    # Bad records, reached and not.
+    for _, bad in captures.bad_records():
+        q.fresh()
+        q.replay([bad])
+        q.replay(steps[:3] + [bad, LSR_00])
+        q.replay([LSR_00, bad])
+    # 1 before 7 before 8; nothing moves.
+    s = clocked()
+    for sin in (2, 1):
+        s[st.SIN] = sin
+        for version in (0, 2, 3, 256, 65535, 1):
+            q.load(s)
+            q.replay([0x60000000, LSR_00], version)
+            q.replay([], version)
+            q.replay(steps, version)
+    # The longest lines.
+    q.fresh()
+    q.replay([LSR_60] * 1024)
+    q.replay([LSR_60] * 1023 + [LSR_00])
+    q.replay([LSR_60] * 1024 + [0])
+    q.replay([0] * 1025, 2)
+
+
 def random_states(seed, count):
     def subject(q):
         """Random states near boundaries, one step, the state it leaves."""
@@ -1447,6 +1501,7 @@ SUBJECTS = (
     ("foretell", "forecast, level and run at their boundaries", foretelling),
     ("driver", "a driver at work, from a seed", driver),
     ("states", "random states and one step", random_states(750, 80)),
+    ("replay", "replay: outcomes, states, refusals, long lines", replays),
 )
 
 

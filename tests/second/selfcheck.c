@@ -7,8 +7,11 @@
  *
  * Steps: every step on a well-formed state gives a well-formed state, and a
  * refused one leaves the state as it was.
+ *
+ * Replay: on random states and records, against the checked calls made one by
+ * one, with differences and bad records put in.
  */
-#include "model.h"
+#include "capture.h"
 
 #include <inttypes.h>
 #include <stdio.h>
@@ -19,6 +22,8 @@
 #define STEP_STATES 20000u
 #define JOURNEYS 200u
 #define JOURNEY_STEPS 2000u
+#define REPLAYS 20000u
+#define REPLAY_RECORDS 40u
 #define LONGEST_STRING (192u + 64u * 192u)
 
 static uint64_t seed = 0x16C750u;
@@ -372,6 +377,110 @@ static void speed_up(struct uart *u)
     }
 }
 
+/* ---- Replay ---- */
+
+/* One more than the largest field of each kind: below it every number is good. */
+static const uint32_t field_ends[] = { 0x10000u, 0x800u, 0x800u, 0x2u, 0x10u, 0x1u };
+
+/* A good record and its step by the checked calls; a read's byte is the one answered. */
+static uint32_t draw_record(struct uart *u)
+{
+    uint32_t kind = draw(16u) == 0u ? 5u : draw(5u);
+    uint32_t field = kind == 0u ? draw(200u) : draw(field_ends[kind]);
+    struct uart_answer a;
+
+    switch (kind) {
+    case 0:
+        a = uart_ticks(u, field);
+        break;
+    case 1:
+        a = uart_read(u, field >> 8);
+        field = (field & 0x700u) | a.byte;
+        break;
+    case 2:
+        a = uart_write(u, field >> 8, (uint8_t)(field & 0xFFu));
+        break;
+    case 3:
+        a = uart_set_sin(u, field);
+        break;
+    case 4:
+        a = uart_set_modem(u, field);
+        break;
+    default:
+        a = uart_reset(u);
+        break;
+    }
+    expect("record's number", u, UART_DONE, a.number);
+    return kind << 28 | field;
+}
+
+/* An unknown kind, or a good record with one stray bit. */
+static uint32_t draw_bad_record(uint32_t good)
+{
+    uint32_t bit;
+
+    if (draw(4u) == 0u)
+        return (6u + draw(10u)) << 28 | draw(1u << 28);
+    do
+        bit = 1u << draw(28u);
+    while (bit < field_ends[good >> 28]);
+    return good | bit;
+}
+
+static void check_answer(const struct uart *first, struct replay_answer got,
+                         struct replay_answer wanted)
+{
+    expect("replay's outcome", first, wanted.outcome, got.outcome);
+    expect("replay's number", first, wanted.number, got.number);
+    expect("replay's place", first, (uint32_t)wanted.place, (uint32_t)got.place);
+    expect("replay's seen byte", first, wanted.seen, got.seen);
+    expect("replay's model byte", first, wanted.model, got.model);
+}
+
+/* The answer, and the state it leaves. */
+static void check_replay(const struct uart *first, uint32_t version, const uint32_t *records,
+                         struct replay_answer wanted, const struct uart *end)
+{
+    struct uart u = *first;
+
+    check_answer(first, replay(&u, version, records, REPLAY_RECORDS), wanted);
+    if (memcmp(&u, end, sizeof u) != 0)
+        fail("replay's state", first, 0u, 1u);
+}
+
+/* Agreed; then with a bad record or another byte at one place, with a bad version, on a bad state. */
+static void check_replays(const struct uart *first)
+{
+    struct uart states[REPLAY_RECORDS + 1u]; /* before each record, and at the end */
+    uint32_t records[REPLAY_RECORDS];
+    struct replay_answer agreed = { REPLAY_AGREED, 0u, 0u, 0u, 0u };
+    struct uart damaged = *first;
+    uint32_t place = draw(REPLAY_RECORDS);
+    uint32_t good;
+
+    states[0] = *first;
+    for (uint32_t i = 0u; i < REPLAY_RECORDS; i++) {
+        states[i + 1u] = states[i];
+        records[i] = draw_record(&states[i + 1u]);
+    }
+    good = records[place];
+    check_replay(first, 1u, records, agreed, &states[REPLAY_RECORDS]);
+    if (good >> 28 == 1u) {
+        uint32_t flip = 1u + draw(255u);
+        struct replay_answer differs = { REPLAY_DIFFERS, 0u, place, (good ^ flip) & 0xFFu,
+                                         good & 0xFFu };
+
+        records[place] = good ^ flip;
+        check_replay(first, 1u, records, differs, &states[place]);
+    }
+    records[place] = draw_bad_record(good);
+    check_replay(first, 1u, records, replay_refused(8u, place), &states[place]);
+    check_replay(first, 2u + draw(65534u), records, replay_refused(7u, 0u), first);
+    check_replay(first, 0u, records, replay_refused(7u, 0u), first);
+    damaged.sin = 2u;
+    check_replay(&damaged, draw(3u), records, replay_refused(1u, 0u), &damaged);
+}
+
 int main(void)
 {
     struct uart u;
@@ -395,5 +504,11 @@ int main(void)
         }
     }
     printf("steps: %u states and %u journeys stay well formed\n", STEP_STATES, JOURNEYS);
+    for (uint32_t i = 0u; i < REPLAYS; i++) {
+        draw_state(&u, 5u);
+        check_replays(&u);
+    }
+    printf("replay: %u states with %u records each as the calls one by one\n", REPLAYS,
+           REPLAY_RECORDS);
     return EXIT_SUCCESS;
 }
