@@ -1,404 +1,35 @@
 #!/usr/bin/env python3
-"""Feeds the same random scripts to two programs and compares their answers.
+"""Feeds the same random scripts and captures to two programs each and compares their answers.
 
-usage: compare.py PROGRAM_A PROGRAM_B [--seed S] [--calls N]
+usage: compare.py CALLS_A CALLS_B [--calls N] [--replays REPLAY_A REPLAY_B [--captures N]]
+                  [--seed S] [--save FOLDER]
 
-The scripts are drawn from the seed: random well-formed states near boundaries
-with steps after them, sequences as a driver would write them, characters on SIN
-with and without errors, forecasts with levels and runs around them, damaged
-states, lines of wrong form. At the first difference it prints the calls that
-lead there, from the last `fresh` or `load` on, and both answers, and ends with
-1. Without a difference it prints how many calls were compared and ends with 0.
+Scripts and captures are drawn from the seed (draws.py). CALLS_B, the second program's, answers the
+reads of the captures. At the first difference of a script it prints the calls that lead there, from
+the last `fresh` or `load` on, and both answers. A capture goes to both programs from a file and
+through a pipe in odd pieces; one that is answered differently is saved and named. Ends with 1 at a
+difference; else it prints how much was compared and ends with 0.
 """
 
 import argparse
+import fcntl
+import os
 import random
+import struct
 import subprocess
 import sys
+import tempfile
+import termios
 import time
 
-import states as st
+import draws
+from recorder import Recorder
 
 FIRST_CHUNKS = (2000, 20000)
 CHUNK = 100000
 
-BIG = 4294967295
 
-
-# ---- Single calls ----
-
-READS = tuple("read %d" % a for a in (0, 0, 0, 1, 2, 2, 2, 3, 4, 5, 5, 5, 6, 6, 7))
-
-FCR_BYTES = (0x00, 0x01, 0x01, 0x03, 0x05, 0x07, 0x07, 0x41, 0x81, 0xC1, 0x21, 0xE1, 0x27, 0x09,
-             0xC0, 0x06, 0x61, 0xA3)
-MCR_BYTES = (0x00, 0x02, 0x10, 0x12, 0x20, 0x22, 0x30, 0x32, 0x3F, 0x1F, 0x14, 0x0B, 0x0F)
-IER_BYTES = (0x00, 0x01, 0x02, 0x04, 0x08, 0x0F, 0x0D, 0x03, 0xFF)
-
-
-def write_op(pick, s):
-    chance = pick(16)
-    if s[st.LCR] & 0x80 and chance < 3:  # the divisor's byte as it is
-        a = pick(2)
-        return "write %d %d" % (a, s[st.DIVISOR] >> 8 * a & 255)
-    if chance < 4:
-        return "write 0 %d" % st.random_byte(pick)
-    if chance < 6:
-        return "write 1 %d" % (IER_BYTES[pick(len(IER_BYTES))] if pick(3) else pick(256))
-    if chance < 9:
-        return "write 2 %d" % (FCR_BYTES[pick(len(FCR_BYTES))] if pick(3) else pick(256))
-    if chance < 11:
-        byte = st.random_lcr(pick) if pick(3) else pick(256)
-        return "write 3 %d" % (s[st.LCR] ^ 0x80 if pick(3) == 0 else byte)
-    if chance < 14:
-        return "write 4 %d" % (MCR_BYTES[pick(len(MCR_BYTES))] if pick(3) else pick(256))
-    return "write %d %d" % (5 + pick(3), pick(256))
-
-
-def tick_count(pick, s):
-    """Ticks to or around a pulse, a bit, a character, a time-out; few where D is large."""
-    d = s[st.DIVISOR]
-    if d == 0:
-        return 1 + pick(20)
-    if d > 300:
-        return max(1, min(65535, (s[st.K] - 1, s[st.K], 1, d)[pick(4)]))
-    chance = pick(12)
-    if chance < 3:
-        return max(1, s[st.K] - pick(2))
-    if chance < 5:
-        return d
-    if chance < 7:
-        return d * (1 + pick(16))
-    if chance == 7:
-        return 16 * d
-    if chance == 8 and d < 20:
-        return d * st.frame_length(s[st.LCR])
-    if chance == 9 and d < 4:
-        return d * (4 * st.frame_length(s[st.LCR]) + pick(3) - 1)
-    return 1 + pick(40)
-
-
-def tick_op(pick, s):
-    if pick(2):
-        return "tick"
-    return "ticks %d" % tick_count(pick, s)
-
-
-def level_time(pick, s):
-    """A time for `level` near the start, the end, a bit's edge, or anywhere."""
-    t = st.forecast(s) or 0
-    d = s[st.DIVISOR]
-    chance = pick(8)
-    if chance == 0:
-        return pick(3)
-    if chance == 1:
-        return s[st.K] + pick(3) - (1 if s[st.K] else 0)
-    if chance == 2:
-        return max(0, t + pick(3) - 1)
-    if chance == 3:
-        return BIG - pick(2)
-    if chance == 4 and d:
-        edge = s[st.K] + (s[st.L] + 16 * pick(30)) * d
-        return max(0, edge + pick(3) - 1)
-    if chance == 5:
-        return pick(BIG + 1)
-    return pick(t + 2)
-
-
-def run_count(pick, s):
-    """N around T where that is near enough, else small."""
-    t = st.forecast(s)
-    if t is None or t > 40000:
-        return pick(300)
-    return max(0, (0, 1, t - 1, t, t + 1, pick(t + 2))[pick(6)])
-
-
-def value_op(pick, s):
-    chance = pick(6)
-    if chance == 0:
-        return "forecast"
-    if chance < 4:
-        return "level %d" % level_time(pick, s)
-    return "run %d" % run_count(pick, s)
-
-
-def refused_op(pick):
-    return ("read %d" % (8 + pick(248)), "write %d %d" % (8 + pick(248), pick(256)),
-            "sin %d" % (2 + pick(254)), "modem %d" % (16 + pick(240)))[pick(4)]
-
-
-BAD_LINES = (
-    "", " ", "tick ", " tick", "tick\r", "tick\t", "Tick", "ticks", "ticks 0", "ticks  1",
-    "ticks 01", "ticks 1 1", "ticks -1", "ticks +1", "ticks 4294967296", "read", "read ",
-    "read 256", "read 00", "read 1x", "read x", "read 0x1", "write 1", "write 1 2 3",
-    "write 0 256", "write 256 0", "sin", "sin 1 ", "sin 256", "modem 256", "modem\t1", "level",
-    "level 4294967296", "level " + "9" * 40, "level 18446744073709551617", "run", "run 00",
-    "run 1.0", "load", "load 0", "pins 0", "forecast 1", "state 0", "reset 0", "fresh ",
-    "fresh\0", "\0", "read\0001", "load " + "0 " * 348, "load " + "0 " * 346 + "0",
-    "load " + "0 " * 348 + "0", "load " + "0 " * 347 + "4294967296", "x" * 4000,
-    "level 00000000000000000001", "\xff", "tick\x0b", "quit", "# note",
-)
-
-
-def any_op(pick, s):
-    """One call of any kind."""
-    chance = pick(64)
-    if chance < 14:
-        return READS[pick(len(READS))]
-    if chance < 32:
-        return write_op(pick, s)
-    if chance < 46:
-        return tick_op(pick, s)
-    if chance < 50:
-        return "sin %d" % pick(2)
-    if chance < 54:
-        return "modem %d" % pick(16)
-    if chance < 57:
-        return value_op(pick, s)
-    if chance < 59:
-        return "pins"
-    if chance < 60:
-        return "state"
-    if chance < 61:
-        return "reset" if pick(3) == 0 else "tick"
-    if chance < 62:
-        return refused_op(pick)
-    return BAD_LINES[pick(len(BAD_LINES))]
-
-
-# ---- Segments: each starts with `fresh` or `load` ----
-
-def boundary_segment(pick, lines):
-    """A state near boundaries, then calls of every kind."""
-    s = st.random_state(pick)
-    lines.append(st.load_line(s))
-    for _ in range(3 + pick(20)):
-        lines.append(any_op(pick, s))
-    lines.append("state")
-
-
-def one_step_segment(pick, lines):
-    """A state near boundaries, one step, and what became of it."""
-    s = st.random_state(pick)
-    lines.append(st.load_line(s))
-    chance = pick(8)
-    if chance < 3:
-        lines.append("ticks %d" % max(1, s[st.K]))
-    elif chance < 4:
-        lines.append(READS[pick(len(READS))])
-    elif chance < 7:
-        lines.append(write_op(pick, s))
-    else:
-        lines.append(("modem %d" % pick(16), "sin %d" % pick(2), "reset")[pick(3)])
-    lines += ("read 5", "read 2") if pick(2) else ("pins", "read 6")
-    lines.append("state")
-
-
-def foretell_segment(pick, lines):
-    """Forecast, levels and runs of one state, with ticks between."""
-    s = st.random_state(pick)
-    if pick(2) and s[st.L] == 0 and s[st.TX_COUNT] == 0:
-        st.random_frame(s, pick)
-    lines.append(st.load_line(s))
-    lines.append("forecast")
-    for _ in range(2 + pick(12)):
-        lines.append("level %d" % level_time(pick, s))
-    if pick(2):
-        lines.append(tick_op(pick, s))
-        lines.append("forecast")
-        lines.append("level %d" % level_time(pick, s))
-    lines.append("run %d" % run_count(pick, s))
-    lines.append("pins")
-    lines.append("forecast")
-    lines.append("state")
-
-
-def put_bits(lines, bits, pulses, divisor):
-    """Levels on SIN, equal neighbours in one go."""
-    at = 0
-    while at < len(bits):
-        end = at
-        while end < len(bits) and bits[end] == bits[at]:
-            end += 1
-        lines.append("sin %d" % bits[at])
-        lines.append("ticks %d" % (pulses * (end - at) * divisor))
-        at = end
-
-
-def put_character(pick, lines, lcr, divisor):
-    """A character on SIN, with or without an error."""
-    bits = st.frame_bits(st.random_byte(pick), lcr)
-    chance = pick(12)
-    if chance == 0:  # stop low
-        bits[-1] = 0
-    elif chance == 1:  # parity bit or last data bit the other way
-        bits[-2] ^= 1
-    elif chance == 2:  # break
-        bits = [0] * (len(bits) + pick(3))
-    elif chance == 3:  # too short for a start bit, or just long enough
-        lines.append("sin 0")
-        lines.append("ticks %d" % ((7 + pick(4)) * divisor))
-        bits = [1] * (1 + pick(11))
-    elif chance == 4:  # another format than the receiver's
-        bits = st.frame_bits(st.random_byte(pick), pick(64))
-    if pick(6) == 0:
-        bits.append(1)
-    put_bits(lines, bits, 16, divisor)
-
-
-def put_setup(pick, lines, divisor, lcr):
-    """What a driver writes first."""
-    if pick(3) == 0:
-        lines.append("modem %d" % pick(16))
-    lines.append("write 3 128")
-    lines.append("write 0 %d" % (divisor & 255))
-    if divisor > 255 or pick(4) == 0:
-        lines.append("write 1 %d" % (divisor >> 8))
-    if pick(4):
-        lines.append("write 2 %d" % (FCR_BYTES[pick(len(FCR_BYTES))] | 1))
-    lines.append("write 3 %d" % lcr)
-    lines.append("write 1 %d" % IER_BYTES[pick(len(IER_BYTES))])
-    lines.append("write 4 %d" % (MCR_BYTES[pick(len(MCR_BYTES))] if pick(2) else 0))
-
-
-def driver_segment(pick, lines):
-    """From fresh: set up, then send, receive, read and write as a driver would."""
-    divisor = (1, 1, 1, 2, 3)[pick(5)]
-    lcr = st.random_lcr(pick) & 0x7F
-    frame = st.frame_length(lcr)
-    lines.append("fresh")
-    put_setup(pick, lines, divisor, lcr)
-    for _ in range(4 + pick(12)):
-        chance = pick(16)
-        if chance < 4:
-            for _ in range(1 + pick(4)):
-                lines.append("write 0 %d" % st.random_byte(pick))
-            lines.append("ticks %d" % (divisor * (1 + pick(2 * frame))))
-        elif chance < 8:
-            put_character(pick, lines, lcr, divisor)
-        elif chance < 9:
-            lines.append("ticks %d" % (divisor * (4 * frame + pick(5) - 3)))
-            lines.append("read 2")
-        elif chance < 12:
-            lines += ("read 5", "read 0", "read 2", "read 6")
-        elif chance < 13:
-            lines.append("write 2 %d" % FCR_BYTES[pick(len(FCR_BYTES))])
-        elif chance < 14:
-            lines.append("write 4 %d" % MCR_BYTES[pick(len(MCR_BYTES))])
-        elif chance < 15:
-            lines.append("modem %d" % pick(16))
-        else:
-            lines += ("forecast", "run %d" % pick(1000), "pins")
-    lines.append("state")
-
-
-def line_segment(pick, lines):
-    """Characters on SIN into a queue that is nearly full or near its trigger."""
-    s = st.random_state(pick)
-    s[st.DIVISOR], s[st.K] = 1, 1
-    if pick(3):
-        s[st.MCR] &= ~0x10
-        st.settle(s)
-    if pick(2):
-        s[st.RX_STATE:st.RX_PARITY + 1] = [0] * 5
-    lines.append(st.load_line(s))
-    for _ in range(1 + pick(4)):
-        put_character(pick, lines, s[st.LCR], 1)
-        chance = pick(6)
-        if chance < 3:
-            lines.append(("read 5", "read 2", "read 0")[chance])
-        elif chance == 3:
-            lines.append(any_op(pick, s))
-    lines.append("state")
-
-
-def loop_segment(pick, lines):
-    """Queued bytes through loopback, LCR sometimes written in the middle."""
-    s = st.random_state(pick)
-    s[st.DIVISOR] = 1 + pick(2)
-    s[st.K] = s[st.DIVISOR]
-    s[st.MCR] = 0x10 | (s[st.MCR] & 0x2F)
-    if pick(2):
-        s[st.MCR] |= 0x02
-    st.settle(s)
-    if pick(2):
-        s[st.RX_STATE:st.RX_PARITY + 1] = [0] * 5
-    lines.append(st.load_line(s))
-    if s[st.LCR] & 0x80:
-        lines.append("write 3 %d" % (s[st.LCR] & 0x7F))
-    for _ in range(1 + pick(3)):
-        lines.append("write 0 %d" % st.random_byte(pick))
-    for _ in range(2 + pick(6)):
-        chance = pick(8)
-        if chance == 0:
-            lines.append(write_op(pick, s))
-        elif chance < 3:
-            lines.append(READS[pick(len(READS))])
-        elif chance < 6:
-            lines.append("ticks %d" % (s[st.DIVISOR] * (1 + pick(180))))
-        else:
-            lines.append("ticks %d" % (s[st.DIVISOR] * 16))
-    lines.append("state")
-
-
-MORE = (1, 2, 16, 256, 256, 65536, 65536, 1 << 24, 1 << 31, BIG)
-
-
-def damaged_segment(pick, lines):
-    """A state that is not well formed, in one range or in one place too wide."""
-    if pick(4):
-        damage = st.DAMAGES[pick(len(st.DAMAGES))][1]
-        s = None
-        while s is None:  # every damage applies to some states
-            s = damage(st.random_state(pick))
-    else:
-        s = st.random_state(pick)
-        place = st.SINGLES[pick(len(st.SINGLES))] if pick(4) else pick(st.PLACES)
-        st.beyond_width(s, place, MORE[pick(len(MORE))])
-    lines.append(st.load_line(s))
-    for _ in range(1 + pick(3)):
-        chance = pick(8)
-        if chance < 4:
-            lines.append(any_op(pick, s))
-        else:
-            lines.append(("pins", "forecast", "tick", "reset")[chance - 4])
-    if pick(3) == 0:
-        lines.append("state")
-
-
-def refused_segment(pick, lines):
-    """Two reasons to refuse at once, or one beside states where it just fails to hold."""
-    s = st.random_state(pick)
-    if pick(2):
-        s[st.DIVISOR] = s[st.K] = 0
-    if pick(2):
-        s[st.FIFO_ON] = 1
-        s[st.MCR] = (s[st.MCR] | 0x20) & ~0x02 if pick(2) else s[st.MCR] | 0x20
-        s[st.MODEM] &= ~1
-        st.settle(s)
-    if pick(3) == 0:
-        s = st.DAMAGES[pick(len(st.DAMAGES))][1](s) or s
-    lines.append(st.load_line(s))
-    lines += ("forecast", "level 0", "level %d" % level_time(pick, s))
-    lines.append(refused_op(pick))
-    lines.append("run %d" % pick(200))
-    lines.append("forecast")
-    if pick(2):
-        lines.append("state")
-
-
-SEGMENTS = ((boundary_segment,) * 5 + (one_step_segment,) * 5 + (driver_segment,) * 3 +
-            (line_segment,) * 2 + (loop_segment,) * 2 + (foretell_segment,) * 2 +
-            (damaged_segment,) * 3 + (refused_segment,))
-
-
-def draw_script(pick, size):
-    lines = []
-    while len(lines) < size:
-        SEGMENTS[pick(len(SEGMENTS))](pick, lines)
-    return lines
-
-
-# ---- Comparing ----
+# ---- Scripts ----
 
 def answers_of(program, text):
     done = subprocess.run([program], input=text, stdout=subprocess.PIPE, check=False)
@@ -437,43 +68,132 @@ def show_difference(lines, out_a, out_b, compared):
     print("B: %s" % (b[at].decode("latin-1") if at < len(b) else "nothing"))
 
 
-def compare(program_a, program_b, seed, calls):
-    draw = random.Random(seed).random
-
-    def pick(n):
-        return int(draw() * n)
-
+def compare_scripts(program_a, program_b, pick, calls):
+    recorder = Recorder(program_b)
     sizes = list(FIRST_CHUNKS)
     compared = 0
     started = time.time()
     while compared < calls:
         size = sizes.pop(0) if sizes else CHUNK
-        lines = draw_script(pick, min(size, calls - compared))
+        lines = draws.draw_script(pick, min(size, calls - compared), recorder)
         text = ("\n".join(lines) + "\n").encode("latin-1")
         out_a, code_a = answers_of(program_a, text)
         out_b, code_b = answers_of(program_b, text)
         if out_a != out_b:
             show_difference(lines, out_a, out_b, compared)
-            return 1
+            return False
         if code_a or code_b or out_a.count(b"\n") != len(lines):
             print("after %d calls: A ended with %d, B with %d, %d answers to %d calls"
                   % (compared, code_a, code_b, out_a.count(b"\n"), len(lines)))
-            return 1
+            return False
         compared += len(lines)
     seconds = time.time() - started
-    print("seed %d: %d calls compared, no difference (%d calls a second)"
-          % (seed, compared, compared / max(seconds, 0.001)))
-    return 0
+    recorder.close()
+    print("%d calls compared, no difference (%d calls a second)"
+          % (compared, compared / max(seconds, 0.001)))
+    return True
+
+
+# ---- Captures ----
+
+SMALL_PIECES = (1, 2, 3, 5, 7)
+LARGE_PIECES = (100, 4093, 8192, 32768, 65537)
+
+
+def wait_until_read(child):
+    """The program has taken all that was written, so its reads are no longer than the pieces."""
+    while child.poll() is None:
+        waiting = fcntl.ioctl(child.stdin, termios.FIONREAD, struct.pack("i", 0))
+        if struct.unpack("i", waiting)[0] == 0:
+            break
+        time.sleep(0.00002)
+
+
+def feed(child, data, pick):
+    """Writes the capture in odd pieces. The program may stop reading before its end."""
+    at = 0
+    try:
+        while at < len(data):
+            # Small ones at the start and now and then; a long capture would take too long in them.
+            pieces = SMALL_PIECES if pick(2 if at < 300 else 50) == 0 else LARGE_PIECES
+            at += child.stdin.write(data[at:at + pieces[pick(len(pieces))]])
+            wait_until_read(child)
+    except BrokenPipeError:
+        pass
+    child.stdin.close()
+
+
+def answer_in_pieces(program, data, pick):
+    child = subprocess.Popen([program], stdin=subprocess.PIPE, stdout=subprocess.PIPE, bufsize=0)
+    feed(child, data, pick)
+    answer = child.stdout.read()
+    child.stdout.close()
+    return answer, child.wait()
+
+
+def answer_from_file(program, name):
+    with open(name, "rb") as capture:
+        done = subprocess.run([program], stdin=capture, stdout=subprocess.PIPE, check=False)
+    return done.stdout, done.returncode
+
+
+def all_answers(programs, name, data, pick):
+    """The answers of both programs, from a file and in pieces; each with its status."""
+    return [answer for program in programs
+            for answer in (answer_from_file(program, name), answer_in_pieces(program, data, pick))]
+
+
+def save_capture(name, data, answers):
+    with open(name, "wb") as out:
+        out.write(data)
+    print("capture saved as %s" % name)
+    for who, (answer, code) in zip(("A, file", "A, pieces", "B, file", "B, pieces"), answers):
+        print("%-10s %r, status %d" % (who, answer.decode("latin-1"), code))
+
+
+def compare_captures(program_b, replays, pick, given):
+    recorder = Recorder(program_b)
+    count = {}
+    with tempfile.TemporaryDirectory() as folder:
+        name = os.path.join(folder, "capture")
+        for number in range(given.captures):
+            data = draws.draw_capture(pick, recorder)
+            with open(name, "wb") as out:
+                out.write(data)
+            answers = all_answers(replays, name, data, pick)
+            if len(set(answers)) != 1 or answers[0][1]:
+                print("difference at capture %d" % (number + 1))
+                saved = "capture-%d-%d.utr" % (given.seed, number + 1)
+                save_capture(os.path.join(given.save, saved), data, answers)
+                return False
+            outcome = answers[0][0].split()[0].decode()
+            count[outcome] = count.get(outcome, 0) + 1
+    recorder.close()
+    print("%d captures compared, no difference (%s)"
+          % (given.captures, ", ".join("%d %s" % (count[o], o) for o in sorted(count))))
+    return True
 
 
 def main():
     parser = argparse.ArgumentParser(description="compares two programs call by call")
     parser.add_argument("program_a")
     parser.add_argument("program_b")
+    parser.add_argument("--replays", nargs=2)
     parser.add_argument("--seed", type=int, default=1)
     parser.add_argument("--calls", type=int, default=1000000)
+    parser.add_argument("--captures", type=int, default=1000)
+    parser.add_argument("--save", default=".")
     given = parser.parse_args()
-    sys.exit(compare(given.program_a, given.program_b, given.seed, given.calls))
+    draw = random.Random(given.seed).random
+
+    def pick(n):
+        return int(draw() * n)
+
+    print("seed %d" % given.seed)
+    same = compare_scripts(given.program_a, given.program_b, pick, given.calls)
+    if same and given.replays:
+        same = compare_captures(given.program_b, given.replays, pick, given)
+    sys.exit(0 if same else 1)
 
 
 if __name__ == "__main__":

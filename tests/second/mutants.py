@@ -1,11 +1,11 @@
 #!/usr/bin/env python3
 """Breaks one rule of the model at a time and asks whether compare.py finds it.
 
-usage: mutants.py [--calls N] [--seed S] [--only TEXT]
+usage: mutants.py [--calls N] [--captures N] [--seed S] [--only TEXT]
 
-Each mutant is a change of text in model.c or calls.c. It is built in a folder of
-its own beside the unchanged `calls`; compare.py has to find a difference within
-the given calls. Prints for each mutant the call at which it was found.
+Each mutant is a change of text in one C file. It is built in a folder of its own
+beside the unchanged programs; compare.py has to find a difference within the
+given calls and captures. Prints for each mutant where it was found.
 """
 
 import argparse
@@ -16,7 +16,9 @@ import sys
 import tempfile
 
 HERE = os.path.dirname(os.path.abspath(__file__))
-SOURCES = ("model.h", "model.c", "calls.c")
+PROGRAMS = ("calls", "replay")
+MODEL = ("model.c", "capture.c", "stream.c")
+HEADERS = ("model.h", "capture.h", "stream.h")
 
 # Name, file, text, text in its place. The text stands exactly once in the file.
 MUTANTS = [
@@ -162,13 +164,13 @@ MUTANTS = [
      "        u->idle_count++;\n    if (u->idle_count > 4u",
      "        u->idle_count++;\n    if (u->idle_count == 1u + 4u"),
     ("RBR read keeps the idle count", "model.c",
-     "    u->timeout_latch = 0u;\n    u->idle_count = 0u;\n    return take_receive_byte(u);",
+     "    u->timeout_latch = 0u;\n    u->idle_count = 0u;\n    remove_oldest_entry(u);",
      "    u->timeout_latch = 0u;\n    if (u->rx_count == 1u)\n        u->idle_count = 0u;\n"
-     "    return take_receive_byte(u);"),
+     "    remove_oldest_entry(u);"),
     ("RBR read keeps the time-out latch", "model.c",
-     "    u->timeout_latch = 0u;\n    u->idle_count = 0u;\n    return take_receive_byte(u);",
+     "    u->timeout_latch = 0u;\n    u->idle_count = 0u;\n    remove_oldest_entry(u);",
      "    if (u->rx_count == 1u)\n        u->timeout_latch = 0u;\n    u->idle_count = 0u;\n"
-     "    return take_receive_byte(u);"),
+     "    remove_oldest_entry(u);"),
 
     # Registers.
     ("THR write dropped in character mode", "model.c",
@@ -189,9 +191,9 @@ MUTANTS = [
      "        u->tx_empty_latch = 0u;\n"),
     ("IER four bits", "model.c", "    u->ier = byte & IER_MASK;", "    u->ier = byte & 0x0Fu;"),
     ("MCR five bits", "model.c", "    u->mcr = byte & MCR_MASK;", "    u->mcr = byte & 0x1Fu;"),
-    ("IIR read clears the latch at every code", "model.c", "    if (code == IIR_TX_EMPTY)\n", ""),
+    ("IIR read clears the latch at every code", "model.c", "    if ((iir & IIR_CODE) == IIR_TX_EMPTY)\n", ""),
     ("IIR read keeps the latch", "model.c",
-     "    if (code == IIR_TX_EMPTY)\n        u->tx_empty_latch = 0u;\n", ""),
+     "    if ((iir & IIR_CODE) == IIR_TX_EMPTY)\n        u->tx_empty_latch = 0u;\n", ""),
     ("IIR size bit with FIFO off", "model.c",
      "    if (u->fifo_on == 0u)\n        return code;\n    return code | IIR_FIFO_ON",
      "    if (u->fifo_on == 0u)\n        return code | (u->size64 << 5);\n"
@@ -247,11 +249,10 @@ MUTANTS = [
      "    oldest->pe = 0u;"),
     ("LSR read keeps the oldest entry's BI", "model.c",
      "    oldest->fe = 0u;\n    oldest->bi = 0u;", "    oldest->fe = 0u;"),
-    ("LSR read clears the next entry's errors", "model.c", "    oldest->bi = 0u;\n    return lsr;",
-     "    oldest->bi = 0u;\n    if (u->rx_count > 1u)\n        u->rx_queue[1].pe = 0u;\n"
-     "    return lsr;"),
-    ("MSR read keeps the changes", "model.c", "    u->changes = 0u;\n    return msr;",
-     "    return msr;"),
+    ("LSR read clears the next entry's errors", "model.c", "    oldest->bi = 0u;\n",
+     "    oldest->bi = 0u;\n    if (u->rx_count > 1u)\n        u->rx_queue[1].pe = 0u;\n"),
+    ("MSR read keeps the changes", "model.c", "    case ADDR_MSR:\n        u->changes = 0u;\n",
+     "    case ADDR_MSR:\n"),
     ("LSR write sets OE", "model.c", "    case ADDR_SCR:\n        u->scr = byte;",
      "    case ADDR_LSR:\n        u->overrun = (byte >> 1) & 1u;\n        break;\n"
      "    case ADDR_SCR:\n        u->scr = byte;"),
@@ -259,8 +260,8 @@ MUTANTS = [
      "    if (divisor != u->divisor)\n        u->k = divisor;\n    u->divisor = divisor;"),
     ("divisor write keeps k", "model.c", "    u->divisor = divisor;\n    u->k = divisor;",
      "    u->divisor = divisor;\n    if (u->k > divisor || u->k == 0u)\n        u->k = divisor;"),
-    ("RBR read with LCR7", "model.c", "divisor_access(u) ? u->divisor & 0xFFu : read_rbr(u);",
-     "divisor_access(u) ? (read_rbr(u), u->divisor & 0xFFu) : read_rbr(u);"),
+    ("RBR read with LCR7", "model.c", "        if (!divisor_access(u))\n            end_rbr_read(u);",
+     "        end_rbr_read(u);"),
     ("IER read with LCR7", "model.c", "divisor_access(u) ? u->divisor >> 8 : u->ier;", "u->ier;"),
 
     # Loopback and modem.
@@ -303,8 +304,8 @@ MUTANTS = [
      "    write_register(u, address, byte);\n    if (address != ADDR_IIR_FCR)\n"
      "        end_step(u);"),
     ("hold not applied at a read", "model.c",
-     "    byte = read_register(u, address);\n    end_step(u);",
-     "    byte = read_register(u, address);"),
+     "        u->changes = 0u;\n        break;\n    default:\n        break;\n    }\n    end_step(u);\n",
+     "        u->changes = 0u;\n        break;\n    default:\n        break;\n    }\n"),
     ("hold not applied at a pulse", "model.c",
      "    pulse_idle_count(u, entered);\n    end_step(u);", "    pulse_idle_count(u, entered);"),
     ("hold released below the trigger", "model.c",
@@ -416,8 +417,8 @@ MUTANTS = [
      "    if (!uart_well_formed(u))\n        return refuse(UART_MALFORMED);\n    byte"),
     ("address taken modulo 8", "model.c",
      "    if (address > ADDR_LAST)\n        return refuse(UART_BAD_ADDRESS);\n"
-     "    write_register(u, address, byte);",
-     "    write_register(u, address & 7u, byte);"),
+     "    uart_do_write(u, address, byte);",
+     "    uart_do_write(u, address & 7u, byte);"),
     ("modem pins masked", "model.c",
      "    if (pins > MODEM_MASK)\n        return refuse(UART_BAD_LEVEL);", "    pins &= MODEM_MASK;"),
 
@@ -521,15 +522,15 @@ MUTANTS = [
     ("received bits at the top of the byte", "model.c", "    entry.byte = u->rx_data;",
      "    entry.byte = u->rx_data << (8u - data_bits(format));"),
     ("MSR shows the pins in loopback", "model.c",
-     "    uint32_t msr = (effective_modem(u) << MSR_LEVEL_SHIFT) | u->changes;",
-     "    uint32_t msr = (u->modem_pins << MSR_LEVEL_SHIFT) | u->changes;"),
-    ("time-out latch cleared by IIR read", "model.c", "    if (u->fifo_on == 0u)\n        return code;\n",
-     "    if (code == IIR_TIMEOUT)\n        u->timeout_latch = 0u;\n    if (u->fifo_on == 0u)\n"
-     "        return code;\n"),
+     "    return (effective_modem(u) << MSR_LEVEL_SHIFT) | u->changes;",
+     "    return (u->modem_pins << MSR_LEVEL_SHIFT) | u->changes;"),
+    ("time-out latch cleared by IIR read", "model.c", "    if ((iir & IIR_CODE) == IIR_TX_EMPTY)\n",
+     "    if ((iir & IIR_CODE) == IIR_TIMEOUT)\n        u->timeout_latch = 0u;\n"
+     "    if ((iir & IIR_CODE) == IIR_TX_EMPTY)\n"),
     ("latch cleared by LSR read", "model.c", "    u->overrun = 0u;\n    oldest->pe = 0u;",
      "    u->overrun = 0u;\n    u->tx_empty_latch = 0u;\n    oldest->pe = 0u;"),
-    ("OE cleared by RBR read", "model.c", "    return take_receive_byte(u);",
-     "    u->overrun = 0u;\n    return take_receive_byte(u);"),
+    ("OE cleared by RBR read", "model.c", "    remove_oldest_entry(u);\n",
+     "    u->overrun = 0u;\n    remove_oldest_entry(u);\n"),
     ("data interrupt from one byte on", "model.c", "    if (u->fifo_on == 0u)\n        return u->rx_count != 0u;",
      "    if (u->rx_count != 0u)\n        return true;"),
     ("time-out only below the trigger", "model.c",
@@ -546,8 +547,8 @@ MUTANTS = [
      "    if ((u->rx_format & LCR_STOP) != 0u && sample == 1u + width + parity_bits(u->rx_format))\n"
      "        return false;\n    return end_character(u, line);"),
     ("reset takes a malformed state", "model.c",
-     "    if (!uart_well_formed(u))\n        return refuse(UART_MALFORMED);\n    uart_fresh(u);",
-     "    uart_fresh(u);"),
+     "    if (!uart_well_formed(u))\n        return refuse(UART_MALFORMED);\n    uart_do_reset(u);",
+     "    uart_do_reset(u);"),
     ("fresh clears SIN", "model.c", "    u->sin = 1u;\n", "    u->sin = 0u;\n"),
     ("tick without divisor pulses", "model.c", "    if (u->divisor == 0u)\n        return;\n    u->k--;",
      "    if (u->divisor == 0u) {\n        pulse(u);\n        return;\n    }\n    u->k--;"),
@@ -574,12 +575,74 @@ MUTANTS = [
     ("text after the numbers taken", "calls.c", "    return at == end;\n", "    return true;\n"),
     ("words by their beginning", "calls.c", "if (strlen(forms[i].word) == length && ",
      "if (strlen(forms[i].word) <= length && "),
+    ("1,023 words", "calls.c", "#define MOST_WORDS 1024u", "#define MOST_WORDS 1023u"),
+    ("1,025 words", "calls.c", "#define MOST_WORDS 1024u", "#define MOST_WORDS 1025u"),
+    ("version above 65535 taken", "calls.c", '{ "replay", 1, 0, 65535,', '{ "replay", 1, 0, 65536,'),
+
+    # Replay.
+    ("the differing read is done", "capture.c",
+     "            if (byte != byte_of(record))\n                return differs(i, byte_of(record), byte);\n"
+     "            uart_end_read(u, address_of(record), byte);",
+     "            uart_end_read(u, address_of(record), byte);\n            if (byte != byte_of(record))\n"
+     "                return differs(i, byte_of(record), byte);"),
+    ("seen and model swapped", "capture.c", "return differs(i, byte_of(record), byte);",
+     "return differs(i, byte, byte_of(record));"),
+    ("places from 1", "capture.c", "return differs(i, byte_of(record), byte);",
+     "return differs(i + 1u, byte_of(record), byte);"),
+    ("stray bits taken", "capture.c", "kind_of(record) <= KIND_RESET &&\n           (record & ~(KIND_MASK | fields[kind_of(record)])) == 0u;",
+     "kind_of(record) <= KIND_RESET;"),
+    ("stray bit 16 of ticks", "capture.c", "[KIND_TICKS] = 0xFFFFu", "[KIND_TICKS] = 0x1FFFFu"),
+    ("stray bit 11 of a read", "capture.c", "[KIND_READ] = 0x7FFu", "[KIND_READ] = 0xFFFu"),
+    ("stray bit 11 of a write", "capture.c", "[KIND_WRITE] = 0x7FFu", "[KIND_WRITE] = 0xFFFu"),
+    ("stray bit 1 of SIN", "capture.c", "[KIND_SIN] = 0x1u", "[KIND_SIN] = 0x3u"),
+    ("stray bit 4 of modem pins", "capture.c", "[KIND_MODEM] = 0xFu", "[KIND_MODEM] = 0x1Fu"),
+    ("stray bit 27 of a reset", "capture.c", "[KIND_RESET] = 0x0u", "[KIND_RESET] = 0x8000000u"),
+    ("kind 6 taken", "capture.c",
+     "    return kind_of(record) <= KIND_RESET &&",
+     "    if (kind_of(record) == 6u)\n        return true;\n    return kind_of(record) <= KIND_RESET &&"),
+    ("records judged before the first step", "capture.c",
+     "    for (size_t i = 0; i < count; i++) {\n        uint32_t record = records[i];\n",
+     "    for (size_t i = 0; i < count; i++)\n        if (!record_is_good(records[i]))\n"
+     "            return replay_refused(CAPTURE_BAD_RECORD, i);\n"
+     "    for (size_t i = 0; i < count; i++) {\n        uint32_t record = records[i];\n"),
+    ("a tick more in each record", "capture.c", "uart_do_ticks(u, field);", "uart_do_ticks(u, field + 1u);"),
+    ("no ticks as one", "capture.c", "uart_do_ticks(u, field);", "uart_do_ticks(u, field + !field);"),
+    ("7 before 1", "capture.c",
+     "    if (!uart_well_formed(u))\n        return replay_refused(UART_MALFORMED, 0u);\n"
+     "    if (version != CAPTURE_VERSION)\n        return replay_refused(CAPTURE_BAD_VERSION, 0u);\n",
+     "    if (version != CAPTURE_VERSION)\n        return replay_refused(CAPTURE_BAD_VERSION, 0u);\n"
+     "    if (!uart_well_formed(u))\n        return replay_refused(UART_MALFORMED, 0u);\n"),
+    ("versions by their low byte", "capture.c", "    if (version != CAPTURE_VERSION)",
+     "    if ((version & 255u) != CAPTURE_VERSION)"),
+
+    # The program replay.
+    ("6 before 8 in a short file", "replay.c", "    if (bytes < HEADER_BYTES)\n",
+     "    if (bytes > 0 && header[0] != 'U')\n        return CAPTURE_BAD_MARK;\n"
+     "    if (bytes < HEADER_BYTES)\n"),
+    ("fourth byte not looked at", "replay.c", " || header[3] != 0u ||", " ||"),
+    ("pad not looked at", "replay.c", "header[3] != 0u ||\n        header[6] != 0u || header[7] != 0u)",
+     "header[3] != 0u)"),
+    ("version's high byte not looked at", "replay.c", "(header[4] | header[5] << 8) != CAPTURE_VERSION",
+     "header[4] != CAPTURE_VERSION"),
+    ("bytes left over ignored", "replay.c", " && used % RECORD_BYTES != 0u)", " && used % RECORD_BYTES > 3u)"),
+    ("bytes left over before a difference", "replay.c",
+     "answer.outcome == REPLAY_AGREED && used % RECORD_BYTES", "used % RECORD_BYTES"),
+    ("places from each block's start", "replay.c", "        answer.place += before;\n", ""),
+    ("each block from the fresh state", "replay.c", "        used = fill(bytes, sizeof bytes);\n",
+     "        uart_fresh(&u);\n        used = fill(bytes, sizeof bytes);\n"),
+    ("a short read ends the input", "replay.c", "        used += (size_t)n;\n",
+     "        used += (size_t)n;\n        if (used >= 8u)\n            break;\n"),
+    ("one block only", "replay.c", "answer.outcome == REPLAY_AGREED && used == sizeof bytes);", "false);"),
+    ("words with the high byte first", "replay.c",
+     "(uint32_t)b[0] | (uint32_t)b[1] << 8 | (uint32_t)b[2] << 16 | (uint32_t)b[3] << 24;",
+     "(uint32_t)b[3] | (uint32_t)b[2] << 8 | (uint32_t)b[1] << 16 | (uint32_t)b[0] << 24;"),
 ]
 
 
 def build(folder, changes):
+    """Builds both programs; returns the folder."""
     os.makedirs(folder, exist_ok=True)
-    for name in SOURCES:
+    for name in HEADERS + MODEL + tuple(program + ".c" for program in PROGRAMS):
         with open(os.path.join(HERE, name)) as source:
             text = source.read()
         for file, old, new in changes:
@@ -589,20 +652,24 @@ def build(folder, changes):
                 text = text.replace(old, new)
         with open(os.path.join(folder, name), "w") as target:
             target.write(text)
-    program = os.path.join(folder, "calls")
-    subprocess.run(["gcc", "-std=c11", "-O1", "-w", "-o", program,
-                    os.path.join(folder, "calls.c"), os.path.join(folder, "model.c")], check=True)
-    return program
+    for program in PROGRAMS:
+        subprocess.run(["gcc", "-std=c11", "-O1", "-w", "-o", program, program + ".c", *MODEL],
+                       cwd=folder, check=True)
+    return folder
 
 
-def found_at(good, bad, seed, calls):
-    done = subprocess.run([sys.executable, os.path.join(HERE, "compare.py"), good, bad,
-                           "--seed", str(seed), "--calls", str(calls)],
-                          stdout=subprocess.PIPE, check=False)
+def found_at(good, bad, given):
+    """Where compare.py finds the difference: `call N` or `capture N`, or None."""
+    calls, replays = ([os.path.join(folder, program) for folder in (bad, good)]
+                      for program in PROGRAMS)
+    done = subprocess.run([sys.executable, "-B", os.path.join(HERE, "compare.py"), *calls,
+                           "--seed", str(given.seed), "--calls", str(given.calls),
+                           "--replays", *replays, "--captures", str(given.captures),
+                           "--save", bad], stdout=subprocess.PIPE, check=False)
     text = done.stdout.decode("latin-1")
-    match = re.search(r"^difference at call (\d+)$", text, re.M)
+    match = re.search(r"^difference at (call|capture) (\d+)$", text, re.M)
     if match:
-        return int(match.group(1))
+        return match.group(1), int(match.group(2))
     if done.returncode:
         print(text[-300:])
     return None
@@ -611,28 +678,30 @@ def found_at(good, bad, seed, calls):
 def main():
     parser = argparse.ArgumentParser(description="asks whether compare.py finds broken rules")
     parser.add_argument("--calls", type=int, default=200000)
+    parser.add_argument("--captures", type=int, default=300)
     parser.add_argument("--seed", type=int, default=1)
-    parser.add_argument("--only", default="")
+    parser.add_argument("--only", default="", help="text in the name, or a file")
     given = parser.parse_args()
     missed = 0
     tried = 0
-    latest = 0
+    latest = {}
     with tempfile.TemporaryDirectory() as folder:
         good = build(os.path.join(folder, "good"), [])
         for name, file, old, new in MUTANTS:
-            if given.only not in name:
+            if given.only not in name and given.only != file:
                 continue
             bad = build(os.path.join(folder, "bad"), [(file, old, new)])
-            at = found_at(good, bad, given.seed, given.calls)
+            found = found_at(good, bad, given)
             tried += 1
-            if at is None:
+            if found is None:
                 missed += 1
                 print("%-60s not found" % name)
             else:
-                latest = max(latest, at)
-                print("%-60s call %d" % (name, at))
+                latest[found[0]] = max(latest.get(found[0], 0), found[1])
+                print("%-60s %s %d" % ((name,) + found))
             sys.stdout.flush()
-    print("%d mutants, %d not found, the last one at call %d" % (tried, missed, latest))
+    print("%d mutants, %d not found, the last one at %s"
+          % (tried, missed, " and ".join("%s %d" % found for found in sorted(latest.items()))))
     sys.exit(1 if missed else 0)
 
 

@@ -1,0 +1,510 @@
+"""Random scripts for `calls` and random captures for `replay`.
+
+Scripts: random well-formed states near boundaries with steps after them, sequences as a driver would
+write them, characters on SIN with and without errors, forecasts with levels and runs around them,
+replays, damaged states, lines of wrong form. Captures: the same steps as records, most of them as
+they are, the others damaged.
+
+pick(n) gives a random number from 0 to n - 1. The bytes of reads in records come from a recorder.
+"""
+
+import states as st
+from recorder import utr
+
+BIG = 4294967295
+
+
+# ---- Single calls ----
+
+READS = tuple("read %d" % a for a in (0, 0, 0, 1, 2, 2, 2, 3, 4, 5, 5, 5, 6, 6, 7))
+
+FCR_BYTES = (0x00, 0x01, 0x01, 0x03, 0x05, 0x07, 0x07, 0x41, 0x81, 0xC1, 0x21, 0xE1, 0x27, 0x09,
+             0xC0, 0x06, 0x61, 0xA3)
+MCR_BYTES = (0x00, 0x02, 0x10, 0x12, 0x20, 0x22, 0x30, 0x32, 0x3F, 0x1F, 0x14, 0x0B, 0x0F)
+IER_BYTES = (0x00, 0x01, 0x02, 0x04, 0x08, 0x0F, 0x0D, 0x03, 0xFF)
+
+
+def write_op(pick, s):
+    chance = pick(16)
+    if s[st.LCR] & 0x80 and chance < 3:  # the divisor's byte as it is
+        a = pick(2)
+        return "write %d %d" % (a, s[st.DIVISOR] >> 8 * a & 255)
+    if chance < 4:
+        return "write 0 %d" % st.random_byte(pick)
+    if chance < 6:
+        return "write 1 %d" % (IER_BYTES[pick(len(IER_BYTES))] if pick(3) else pick(256))
+    if chance < 9:
+        return "write 2 %d" % (FCR_BYTES[pick(len(FCR_BYTES))] if pick(3) else pick(256))
+    if chance < 11:
+        byte = st.random_lcr(pick) if pick(3) else pick(256)
+        return "write 3 %d" % (s[st.LCR] ^ 0x80 if pick(3) == 0 else byte)
+    if chance < 14:
+        return "write 4 %d" % (MCR_BYTES[pick(len(MCR_BYTES))] if pick(3) else pick(256))
+    return "write %d %d" % (5 + pick(3), pick(256))
+
+
+def tick_count(pick, s):
+    """Ticks to or around a pulse, a bit, a character, a time-out; few where D is large."""
+    d = s[st.DIVISOR]
+    if d == 0:
+        return 1 + pick(20)
+    if d > 300:
+        return max(1, min(65535, (s[st.K] - 1, s[st.K], 1, d)[pick(4)]))
+    chance = pick(12)
+    if chance < 3:
+        return max(1, s[st.K] - pick(2))
+    if chance < 5:
+        return d
+    if chance < 7:
+        return d * (1 + pick(16))
+    if chance == 7:
+        return 16 * d
+    if chance == 8 and d < 20:
+        return d * st.frame_length(s[st.LCR])
+    if chance == 9 and d < 4:
+        return d * (4 * st.frame_length(s[st.LCR]) + pick(3) - 1)
+    return 1 + pick(40)
+
+
+def tick_op(pick, s):
+    if pick(2):
+        return "tick"
+    return "ticks %d" % tick_count(pick, s)
+
+
+def level_time(pick, s):
+    """A time for `level` near the start, the end, a bit's edge, or anywhere."""
+    t = st.forecast(s) or 0
+    d = s[st.DIVISOR]
+    chance = pick(8)
+    if chance == 0:
+        return pick(3)
+    if chance == 1:
+        return s[st.K] + pick(3) - (1 if s[st.K] else 0)
+    if chance == 2:
+        return max(0, t + pick(3) - 1)
+    if chance == 3:
+        return BIG - pick(2)
+    if chance == 4 and d:
+        edge = s[st.K] + (s[st.L] + 16 * pick(30)) * d
+        return max(0, edge + pick(3) - 1)
+    if chance == 5:
+        return pick(BIG + 1)
+    return pick(t + 2)
+
+
+def run_count(pick, s):
+    """N around T where that is near enough, else small."""
+    t = st.forecast(s)
+    if t is None or t > 40000:
+        return pick(300)
+    return max(0, (0, 1, t - 1, t, t + 1, pick(t + 2))[pick(6)])
+
+
+def value_op(pick, s):
+    chance = pick(6)
+    if chance == 0:
+        return "forecast"
+    if chance < 4:
+        return "level %d" % level_time(pick, s)
+    return "run %d" % run_count(pick, s)
+
+
+def refused_op(pick):
+    return ("read %d" % (8 + pick(248)), "write %d %d" % (8 + pick(248), pick(256)),
+            "sin %d" % (2 + pick(254)), "modem %d" % (16 + pick(240)))[pick(4)]
+
+
+BAD_LINES = (
+    "", " ", "tick ", " tick", "tick\r", "tick\t", "Tick", "ticks", "ticks 0", "ticks  1",
+    "ticks 01", "ticks 1 1", "ticks -1", "ticks +1", "ticks 4294967296", "read", "read ",
+    "read 256", "read 00", "read 1x", "read x", "read 0x1", "write 1", "write 1 2 3",
+    "write 0 256", "write 256 0", "sin", "sin 1 ", "sin 256", "modem 256", "modem\t1", "level",
+    "level 4294967296", "level " + "9" * 40, "level 18446744073709551617", "run", "run 00",
+    "run 1.0", "load", "load 0", "pins 0", "forecast 1", "state 0", "reset 0", "fresh ",
+    "fresh\0", "\0", "read\0001", "load " + "0 " * 348, "load " + "0 " * 346 + "0",
+    "load " + "0 " * 348 + "0", "load " + "0 " * 347 + "4294967296", "x" * 4000,
+    "level 00000000000000000001", "\xff", "tick\x0b", "quit", "# note",
+    "replay", "replay 65536", "replay 1 ", "replay 01", "replay 1 4294967296", "replay 1 00",
+    "replay 1" + " 0" * 1025, "replay 1" + " 4294967295" * 1025,
+)
+
+
+def any_op(pick, s):
+    """One call of any kind."""
+    chance = pick(64)
+    if chance < 14:
+        return READS[pick(len(READS))]
+    if chance < 32:
+        return write_op(pick, s)
+    if chance < 46:
+        return tick_op(pick, s)
+    if chance < 50:
+        return "sin %d" % pick(2)
+    if chance < 54:
+        return "modem %d" % pick(16)
+    if chance < 57:
+        return value_op(pick, s)
+    if chance < 59:
+        return "pins"
+    if chance < 60:
+        return "state"
+    if chance < 61:
+        return "reset" if pick(3) == 0 else "tick"
+    if chance < 62:
+        return refused_op(pick)
+    return BAD_LINES[pick(len(BAD_LINES))]
+
+
+# ---- Segments: each starts with `fresh` or `load` ----
+
+def boundary_segment(pick, lines):
+    """A state near boundaries, then calls of every kind."""
+    s = st.random_state(pick)
+    lines.append(st.load_line(s))
+    for _ in range(3 + pick(20)):
+        lines.append(any_op(pick, s))
+    lines.append("state")
+
+
+def one_step_segment(pick, lines):
+    """A state near boundaries, one step, and what became of it."""
+    s = st.random_state(pick)
+    lines.append(st.load_line(s))
+    chance = pick(8)
+    if chance < 3:
+        lines.append("ticks %d" % max(1, s[st.K]))
+    elif chance < 4:
+        lines.append(READS[pick(len(READS))])
+    elif chance < 7:
+        lines.append(write_op(pick, s))
+    else:
+        lines.append(("modem %d" % pick(16), "sin %d" % pick(2), "reset")[pick(3)])
+    lines += ("read 5", "read 2") if pick(2) else ("pins", "read 6")
+    lines.append("state")
+
+
+def foretell_segment(pick, lines):
+    """Forecast, levels and runs of one state, with ticks between."""
+    s = st.random_state(pick)
+    if pick(2) and s[st.L] == 0 and s[st.TX_COUNT] == 0:
+        st.random_frame(s, pick)
+    lines.append(st.load_line(s))
+    lines.append("forecast")
+    for _ in range(2 + pick(12)):
+        lines.append("level %d" % level_time(pick, s))
+    if pick(2):
+        lines.append(tick_op(pick, s))
+        lines.append("forecast")
+        lines.append("level %d" % level_time(pick, s))
+    lines.append("run %d" % run_count(pick, s))
+    lines.append("pins")
+    lines.append("forecast")
+    lines.append("state")
+
+
+def put_bits(lines, bits, pulses, divisor):
+    """Levels on SIN, equal neighbours in one go."""
+    at = 0
+    while at < len(bits):
+        end = at
+        while end < len(bits) and bits[end] == bits[at]:
+            end += 1
+        lines.append("sin %d" % bits[at])
+        lines.append("ticks %d" % (pulses * (end - at) * divisor))
+        at = end
+
+
+def put_character(pick, lines, lcr, divisor):
+    """A character on SIN, with or without an error."""
+    bits = st.frame_bits(st.random_byte(pick), lcr)
+    chance = pick(12)
+    if chance == 0:  # stop low
+        bits[-1] = 0
+    elif chance == 1:  # parity bit or last data bit the other way
+        bits[-2] ^= 1
+    elif chance == 2:  # break
+        bits = [0] * (len(bits) + pick(3))
+    elif chance == 3:  # too short for a start bit, or just long enough
+        lines.append("sin 0")
+        lines.append("ticks %d" % ((7 + pick(4)) * divisor))
+        bits = [1] * (1 + pick(11))
+    elif chance == 4:  # another format than the receiver's
+        bits = st.frame_bits(st.random_byte(pick), pick(64))
+    if pick(6) == 0:
+        bits.append(1)
+    put_bits(lines, bits, 16, divisor)
+
+
+def put_setup(pick, lines, divisor, lcr):
+    """What a driver writes first."""
+    if pick(3) == 0:
+        lines.append("modem %d" % pick(16))
+    lines.append("write 3 128")
+    lines.append("write 0 %d" % (divisor & 255))
+    if divisor > 255 or pick(4) == 0:
+        lines.append("write 1 %d" % (divisor >> 8))
+    if pick(4):
+        lines.append("write 2 %d" % (FCR_BYTES[pick(len(FCR_BYTES))] | 1))
+    lines.append("write 3 %d" % lcr)
+    lines.append("write 1 %d" % IER_BYTES[pick(len(IER_BYTES))])
+    lines.append("write 4 %d" % (MCR_BYTES[pick(len(MCR_BYTES))] if pick(2) else 0))
+
+
+def driver_segment(pick, lines):
+    """From fresh: set up, then send, receive, read and write as a driver would."""
+    divisor = (1, 1, 1, 2, 3)[pick(5)]
+    lcr = st.random_lcr(pick) & 0x7F
+    frame = st.frame_length(lcr)
+    lines.append("fresh")
+    put_setup(pick, lines, divisor, lcr)
+    for _ in range(4 + pick(12)):
+        chance = pick(16)
+        if chance < 4:
+            for _ in range(1 + pick(4)):
+                lines.append("write 0 %d" % st.random_byte(pick))
+            lines.append("ticks %d" % (divisor * (1 + pick(2 * frame))))
+        elif chance < 8:
+            put_character(pick, lines, lcr, divisor)
+        elif chance < 9:
+            lines.append("ticks %d" % (divisor * (4 * frame + pick(5) - 3)))
+            lines.append("read 2")
+        elif chance < 12:
+            lines += ("read 5", "read 0", "read 2", "read 6")
+        elif chance < 13:
+            lines.append("write 2 %d" % FCR_BYTES[pick(len(FCR_BYTES))])
+        elif chance < 14:
+            lines.append("write 4 %d" % MCR_BYTES[pick(len(MCR_BYTES))])
+        elif chance < 15:
+            lines.append("modem %d" % pick(16))
+        else:
+            lines += ("forecast", "run %d" % pick(1000), "pins")
+    lines.append("state")
+
+
+def line_segment(pick, lines):
+    """Characters on SIN into a queue that is nearly full or near its trigger."""
+    s = st.random_state(pick)
+    s[st.DIVISOR], s[st.K] = 1, 1
+    if pick(3):
+        s[st.MCR] &= ~0x10
+        st.settle(s)
+    if pick(2):
+        s[st.RX_STATE:st.RX_PARITY + 1] = [0] * 5
+    lines.append(st.load_line(s))
+    for _ in range(1 + pick(4)):
+        put_character(pick, lines, s[st.LCR], 1)
+        chance = pick(6)
+        if chance < 3:
+            lines.append(("read 5", "read 2", "read 0")[chance])
+        elif chance == 3:
+            lines.append(any_op(pick, s))
+    lines.append("state")
+
+
+def loop_segment(pick, lines):
+    """Queued bytes through loopback, LCR sometimes written in the middle."""
+    s = st.random_state(pick)
+    s[st.DIVISOR] = 1 + pick(2)
+    s[st.K] = s[st.DIVISOR]
+    s[st.MCR] = 0x10 | (s[st.MCR] & 0x2F)
+    if pick(2):
+        s[st.MCR] |= 0x02
+    st.settle(s)
+    if pick(2):
+        s[st.RX_STATE:st.RX_PARITY + 1] = [0] * 5
+    lines.append(st.load_line(s))
+    if s[st.LCR] & 0x80:
+        lines.append("write 3 %d" % (s[st.LCR] & 0x7F))
+    for _ in range(1 + pick(3)):
+        lines.append("write 0 %d" % st.random_byte(pick))
+    for _ in range(2 + pick(6)):
+        chance = pick(8)
+        if chance == 0:
+            lines.append(write_op(pick, s))
+        elif chance < 3:
+            lines.append(READS[pick(len(READS))])
+        elif chance < 6:
+            lines.append("ticks %d" % (s[st.DIVISOR] * (1 + pick(180))))
+        else:
+            lines.append("ticks %d" % (s[st.DIVISOR] * 16))
+    lines.append("state")
+
+
+MORE = (1, 2, 16, 256, 256, 65536, 65536, 1 << 24, 1 << 31, BIG)
+
+
+def damaged_segment(pick, lines):
+    """A state that is not well formed, in one range or in one place too wide."""
+    if pick(4):
+        damage = st.DAMAGES[pick(len(st.DAMAGES))][1]
+        s = None
+        while s is None:  # every damage applies to some states
+            s = damage(st.random_state(pick))
+    else:
+        s = st.random_state(pick)
+        place = st.SINGLES[pick(len(st.SINGLES))] if pick(4) else pick(st.PLACES)
+        st.beyond_width(s, place, MORE[pick(len(MORE))])
+    lines.append(st.load_line(s))
+    for _ in range(1 + pick(3)):
+        chance = pick(8)
+        if chance < 4:
+            lines.append(any_op(pick, s))
+        else:
+            lines.append(("pins", "forecast", "tick", "reset")[chance - 4])
+    if pick(3) == 0:
+        lines.append("state")
+
+
+def refused_segment(pick, lines):
+    """Two reasons to refuse at once, or one beside states where it just fails to hold."""
+    s = st.random_state(pick)
+    if pick(2):
+        s[st.DIVISOR] = s[st.K] = 0
+    if pick(2):
+        s[st.FIFO_ON] = 1
+        s[st.MCR] = (s[st.MCR] | 0x20) & ~0x02 if pick(2) else s[st.MCR] | 0x20
+        s[st.MODEM] &= ~1
+        st.settle(s)
+    if pick(3) == 0:
+        s = st.DAMAGES[pick(len(st.DAMAGES))][1](s) or s
+    lines.append(st.load_line(s))
+    lines += ("forecast", "level 0", "level %d" % level_time(pick, s))
+    lines.append(refused_op(pick))
+    lines.append("run %d" % pick(200))
+    lines.append("forecast")
+    if pick(2):
+        lines.append("state")
+
+
+SEGMENTS = ((boundary_segment,) * 5 + (one_step_segment,) * 5 + (driver_segment,) * 3 +
+            (line_segment,) * 2 + (loop_segment,) * 2 + (foretell_segment,) * 2 +
+            (damaged_segment,) * 3 + (refused_segment,))
+
+
+# ---- Records ----
+
+RECORDED = ("tick", "ticks", "read", "write", "sin", "modem", "reset")
+SOURCES = (driver_segment,) * 4 + (boundary_segment, line_segment, loop_segment)
+
+
+def is_recorded(line):
+    """A step that a record can hold: of right form and not refused."""
+    name, *numbers = line.split(" ")
+    if name not in RECORDED or line in BAD_LINES:
+        return False
+    most = {"read": 7, "write": 7, "sin": 1, "modem": 15}.get(name, BIG)
+    return not numbers or int(numbers[0]) <= most
+
+
+def record_steps(pick, recorder, most):
+    """The steps of some segments, one after the other, without their own starts."""
+    while len(recorder.records) < most:
+        lines = []
+        SOURCES[pick(len(SOURCES))](pick, lines)
+        if pick(6) == 0:
+            recorder.reset()
+        if pick(6) == 0:
+            recorder.records.append(utr.record(utr.TICKS, 0))
+        for line in filter(is_recorded, lines):
+            recorder.step(line)
+    return recorder.taken()[:most]
+
+
+STRAY_FROM = (16, 11, 11, 1, 4, 0)
+
+
+def bad_record(pick, word):
+    """A bad kind, or a stray bit in the record or in one of any kind."""
+    if pick(3) == 0:
+        return (6 + pick(10)) << 28 | (word & 0x0FFFFFFF if pick(2) else 0)
+    if pick(2) or word >> 28 > utr.RESET:
+        word = pick(6) << 28
+    least = STRAY_FROM[word >> 28]
+    return word | 1 << (least, 27, least + pick(28 - least))[pick(3)]
+
+
+def damage_record(pick, words):
+    """A read's byte, a stray bit, a bad kind, or any word, somewhere or at the end."""
+    place = len(words) - 1 if pick(4) == 0 else pick(len(words))
+    if pick(3):
+        reads = [i for i in range(place, len(words)) if words[i] >> 28 == utr.READ]
+        if reads:
+            words[reads[0]] ^= 1 << pick(8)
+    elif pick(4):
+        words[place] = bad_record(pick, words[place])
+    else:
+        words[place] = pick(BIG + 1)
+
+
+def replay_segment(recorder):
+    """Replays from a state near boundaries or from fresh, most of them agreed."""
+    def segment(pick, lines):
+        start = "fresh" if pick(3) == 0 else st.load_line(st.random_state(pick))
+        recorder.start(start)
+        words = record_steps(pick, recorder, 1 + pick((4, 30, 200, 1024)[pick(4)]))
+        for _ in range(pick(3)):
+            damage_record(pick, words)
+        version = 1 if pick(12) else (0, 2, 3, 256, 257, 65535)[pick(6)]
+        lines.append(start)
+        lines.append(" ".join(map(str, ["replay", version, *words])))
+        lines.append("state")
+    return segment
+
+
+def damaged_replay_segment(pick, lines):
+    """Replays of damaged states."""
+    damaged_segment(pick, lines)
+    lines.append("replay %d" % pick(3))
+    lines.append("replay %d %d" % (pick(3), pick(BIG + 1)))
+
+
+def draw_script(pick, size, recorder):
+    segments = SEGMENTS + (replay_segment(recorder),) * 4 + (damaged_replay_segment,)
+    lines = []
+    while len(lines) < size:
+        segments[pick(len(segments))](pick, lines)
+    return lines
+
+
+# ---- Captures ----
+
+BLOCK = 8192
+
+
+def capture_size(pick):
+    """Records: few, some, around a block of the program's, now and then several blocks."""
+    chance = pick(40)
+    if chance < 24:
+        return pick((3, 20, 100)[pick(3)]) + pick(2)
+    if chance < 36:
+        return 100 + pick(1000)
+    if chance < 39:
+        return BLOCK - 2 + pick(5)
+    return BLOCK + pick(2 * BLOCK)
+
+
+def damage_header(pick, data):
+    """One or two of its bytes."""
+    damaged = bytearray(data)
+    for _ in range(1 + pick(2)):
+        damaged[pick(8)] ^= 1 << pick(8)
+    return bytes(damaged)
+
+
+def draw_capture(pick, recorder):
+    """A file; about half of them agree."""
+    recorder.start()
+    words = record_steps(pick, recorder, capture_size(pick))
+    chance = pick(20)
+    if words and chance < 7:
+        for _ in range(1 + pick(2)):
+            damage_record(pick, words)
+    data = utr.capture(words)
+    if chance < 9 and pick(4) == 0 or chance == 9:
+        data = damage_header(pick, data)
+    if chance in (7, 9) or pick(20) == 0:
+        data = data[:-1 - pick(7)]
+    if chance == 8:
+        data = data[:pick(9)]
+    return data
