@@ -442,8 +442,8 @@ def replay_segment(recorder):
     def segment(pick, lines):
         start = "fresh" if pick(3) == 0 else st.load_line(st.random_state(pick))
         recorder.start(start)
-        words = record_steps(pick, recorder, 1 + pick((4, 30, 200, 1024)[pick(4)]))
-        for _ in range(pick(3)):
+        words = record_steps(pick, recorder, (1 + pick(5), pick(40), pick(300), 1024 - pick(2))[pick(4)])
+        for _ in range(pick(3) if words else 0):
             damage_record(pick, words)
         version = 1 if pick(12) else (0, 2, 3, 256, 257, 65535)[pick(6)]
         lines.append(start)
@@ -501,10 +501,10 @@ def draw_capture(pick, recorder):
         for _ in range(1 + pick(2)):
             damage_record(pick, words)
     data = utr.capture(words)
-    if chance < 9 and pick(4) == 0 or chance == 9:
+    if chance in (7, 8, 9):
         data = damage_header(pick, data)
-    if chance in (7, 9) or pick(20) == 0:
-        data = data[:-1 - pick(7)]
-    if chance == 8:
+    if chance in (9, 10):
         data = data[:pick(9)]
+    elif pick(10) == 0:
+        data = data[:-1 - pick(7)]
     return data

@@ -678,7 +678,7 @@ def found_at(good, bad, given):
 def main():
     parser = argparse.ArgumentParser(description="asks whether compare.py finds broken rules")
     parser.add_argument("--calls", type=int, default=200000)
-    parser.add_argument("--captures", type=int, default=300)
+    parser.add_argument("--captures", type=int, default=400)
     parser.add_argument("--seed", type=int, default=1)
     parser.add_argument("--only", default="", help="text in the name, or a file")
     given = parser.parse_args()
