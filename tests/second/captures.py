@@ -1,13 +1,17 @@
 #!/usr/bin/env python3
-"""Writes the stored captures into a folder: 000, 001, .. and index.txt, a line `NNN name` for each.
+"""Makes the stored captures: the same at every run, each with the answer that it is made for.
 
-usage: captures.py CALLS FOLDER
+usage: captures.py CALLS write FOLDER
+       captures.py CALLS check REPLAY
 
-CALLS is the second program's `calls`, which answers the reads. The files are the same at every run.
+CALLS is the second program's `calls`, which answers the reads. `write` makes the files 000, 001, ..
+and index.txt, a line `NNN name` for each. `check` holds the program REPLAY to the answers, and to its
+status where reading or writing fails.
 """
 
 import os
 import random
+import subprocess
 import sys
 
 import states as st
@@ -350,22 +354,35 @@ def polling(q, records):
             q.write((SCR, IER, MCR)[pick(3)], 0x10 | pick(16))
 
 
-# ---- Damage ----
+# ---- Damage, and the answer to it ----
+
+AGREED = "agreed"
+
+
+def refused(number, place=0):
+    return "refused %d %d" % (number, place)
+
 
 def is_read(word):
     return word >> 28 == utr.READ
-
-
-def differing(words, place):
-    """One bit of the byte of the read at this place flipped."""
-    assert is_read(words[place])
-    return words[:place] + [words[place] ^ 1 << place % 8] + words[place + 1:]
 
 
 def middle_read(words):
     """The place of the read nearest to the middle."""
     middle = len(words) // 2
     return min((i for i, w in enumerate(words) if is_read(w)), key=lambda i: abs(i - middle))
+
+
+def with_record(words, place, word):
+    return words[:place] + [word] + words[place + 1:]
+
+
+def differing(words, place):
+    """One bit of the byte of the read at this place flipped; the records and the answer."""
+    assert is_read(words[place])
+    damaged = words[place] ^ 1 << place % 8
+    answer = "differs %d %d %d" % (place, damaged & 255, words[place] & 255)
+    return with_record(words, place, damaged), answer
 
 
 BAD_KIND = 0x60000000
@@ -385,7 +402,7 @@ def bad_records():
         yield "kind-%d" % kind, kind << 28
 
 
-# ---- The set ----
+# ---- The set: name, file, answer ----
 
 def recorded(q, sequence, *arguments):
     q.start()
@@ -393,69 +410,80 @@ def recorded(q, sequence, *arguments):
     return q.taken()
 
 
+def with_difference(name, words, place, rest=b""):
+    damaged, answer = differing(words, place)
+    return name, utr.capture(damaged) + rest, answer
+
+
 def sequences(q):
     for name, sequence in SEQUENCES:
         words = recorded(q, sequence)
-        yield name, utr.capture(words)
-        yield name + "-damaged", utr.capture(differing(words, middle_read(words)))
+        yield name, utr.capture(words), AGREED
+        yield with_difference(name + "-damaged", words, middle_read(words))
 
 
-def headers(few):
-    """Every refusal of a header, and which comes first."""
-    good = utr.header()
+def short_files():
     for length in range(8):
-        yield "short-%d" % length, good[:length]
-    yield "short-and-wrong-letters", b"XYZ"
-    yield "short-of-wrong-letters-by-one", b"utr\1\2\3\4"
+        yield "short-%d" % length, utr.header()[:length], refused(8)
+    yield "short-and-wrong-letters", b"XYZ", refused(8)
+    yield "short-of-wrong-letters-by-one", b"utr\1\2\3\4", refused(8)
+
+
+def headers(records):
+    """6 and 7, and which comes first."""
     for place in (0, 1, 2, 3, 6, 7):
         for flip in (0x01, 0x80):
-            damaged = bytearray(good)
+            damaged = bytearray(utr.header())
             damaged[place] ^= flip
-            yield "mark-byte-%d-flip-%d" % (place, flip), bytes(damaged) + few
+            yield "mark-byte-%d-flip-%d" % (place, flip), bytes(damaged) + records, refused(6)
     for version in (0, 2, 3, 256, 257, 65535):
-        yield "version-%d" % version, utr.header(version) + few
-    yield "version-2-alone", utr.header(2)
-    yield "version-2-and-bytes-left", utr.header(2) + b"\0"
-    yield "wrong-letter-and-version", utr.header(2, b"UTS\0") + few
-    yield "wrong-fourth-byte-and-version", utr.header(0, b"UTR0") + few
-    yield "wrong-pad-and-version", utr.header(2, pad=256) + few
-    yield "wrong-letters-alone", utr.header(1, b"RTU\0")
-    yield "empty", b""
-    yield "header-only", good
+        yield "version-%d" % version, utr.header(version) + records, refused(7)
+    yield "version-2-alone", utr.header(2), refused(7)
+    yield "version-2-and-bytes-left", utr.header(2) + b"\0", refused(7)
+    yield "wrong-letter-and-version", utr.header(2, b"UTS\0") + records, refused(6)
+    yield "wrong-fourth-byte-and-version", utr.header(0, b"UTR0") + records, refused(6)
+    yield "wrong-pad-and-version", utr.header(2, pad=256) + records, refused(6)
+    yield "wrong-letters-alone", utr.header(1, b"RTU\0"), refused(6)
+    yield "header-only", utr.header(), AGREED
 
 
 def long_ones(q):
     for count in (8191, 8192, 8193, 20000):
         words = recorded(q, polling, count)
-        yield "records-%d" % count, utr.capture(words)
-        yield "records-%d-last-differs" % count, utr.capture(differing(words, count - 1))
-        yield "records-%d-last-bad" % count, utr.capture(words[:-1] + [BAD_KIND])
+        name = "records-%d" % count
+        yield name, utr.capture(words), AGREED
+        yield with_difference(name + "-last-differs", words, count - 1)
+        yield name + "-last-bad", utr.capture(words[:-1] + [BAD_KIND]), refused(8, count - 1)
         if count == 8192:
             for left in (1, 2, 3):
-                yield "records-8192-left-%d" % left, utr.capture(words) + b"\0" * left
+                yield name + "-left-%d" % left, utr.capture(words) + b"\0" * left, refused(8, count)
     words = recorded(q, polling, 8200)
     for place in (8191, 8192):
-        yield "records-8200-differs-%d" % place, utr.capture(differing(words, place))
-        yield "records-8200-bad-%d" % place, utr.capture(words[:place] + [BAD_KIND] + words[place + 1:])
+        yield with_difference("records-8200-differs-%d" % place, words, place)
+        bad = with_record(words, place, BAD_KIND)
+        yield "records-8200-bad-%d" % place, utr.capture(bad), refused(8, place)
 
 
 def left_over(words):
     for left in (1, 2, 3):
         rest = b"\x60\x05\x00"[:left]
-        yield "left-%d-after-none" % left, utr.header() + rest
-        yield "left-%d-after-few" % left, utr.capture(words) + rest
-        yield "left-%d-after-difference" % left, utr.capture(differing(words, 2)) + rest
-        yield "left-%d-after-bad" % left, utr.capture(words[:2] + [BAD_KIND] + words[2:]) + rest
+        name = "left-%d-after-" % left
+        yield name + "none", utr.header() + rest, refused(8)
+        yield name + "few", utr.capture(words) + rest, refused(8, len(words))
+        yield with_difference(name + "difference", words, 2, rest)
+        yield name + "bad", utr.capture(with_record(words, 2, BAD_KIND)) + rest, refused(8, 2)
 
 
 def bad_ones(words):
     """Words agree; a bad record stands first, between and last."""
     for name, bad in bad_records():
         for where, place in (("first", 0), ("middle", len(words) // 2), ("last", len(words))):
-            yield "%s-%s" % (name, where), utr.capture(words[:place] + [bad] + words[place:])
-    yield "difference-before-bad", utr.capture(differing(words, 2) + [BAD_KIND] + words)
-    yield "bad-before-difference", utr.capture([BAD_KIND] + differing(words, 2))
-    yield "difference-after-difference", utr.capture(differing(differing(words, 2), 0))
+            data = utr.capture(words[:place] + [bad] + words[place:])
+            yield "%s-%s" % (name, where), data, refused(8, place)
+    damaged, answer = differing(words, 2)
+    yield "difference-before-bad", utr.capture(damaged + [BAD_KIND]), answer
+    yield "bad-before-difference", utr.capture([BAD_KIND] + damaged), refused(8)
+    yield with_difference("difference-before-difference", damaged, 0)
 
 
 def few(q):
@@ -470,6 +498,7 @@ def stored(calls):
     q = Recorder(calls)
     words = recorded(q, few)
     yield from sequences(q)
+    yield from short_files()
     yield from headers(utr.pack(words))
     yield from long_ones(q)
     yield from left_over(words)
@@ -477,21 +506,57 @@ def stored(calls):
     q.close()
 
 
-def main():
-    if len(sys.argv) != 3:
-        sys.exit(__doc__.strip())
-    calls, folder = sys.argv[1:]
+def write(calls, folder):
     os.makedirs(folder, exist_ok=True)
     for old in os.listdir(folder):
         if old.isdigit():
             os.remove(os.path.join(folder, old))
     index = []
-    for number, (name, data) in enumerate(stored(calls)):
+    for number, (name, data, _) in enumerate(stored(calls)):
         with open(os.path.join(folder, "%03d" % number), "wb") as out:
             out.write(data)
         index.append("%03d %s\n" % (number, name))
     with open(os.path.join(folder, "index.txt"), "w") as out:
         out.writelines(index)
+
+
+# ---- Checking a program ----
+
+def fails_with_2(program):
+    """A folder cannot be read, a full device not written: status 2 and a message, no answer."""
+    folder = os.open(".", os.O_RDONLY)
+    unread = subprocess.run([program], stdin=folder, capture_output=True, check=False)
+    os.close(folder)
+    with open("/dev/full", "wb") as full:
+        unwritten = subprocess.run([program], input=b"", stdout=full, stderr=subprocess.PIPE,
+                                   check=False)
+    return (unread.returncode == unwritten.returncode == 2 and not unread.stdout
+            and unread.stderr and unwritten.stderr)
+
+
+def check(calls, program):
+    count = wrong = 0
+    for name, data, answer in stored(calls):
+        done = subprocess.run([program], input=data, capture_output=True, check=False)
+        count += 1
+        if (done.stdout.decode(), done.stderr, done.returncode) != (answer + "\n", b"", 0):
+            print("%s answered %r, should be %r" % (name, done.stdout, answer))
+            wrong += 1
+    if not fails_with_2(program):
+        print("reading or writing fails without status 2 and a message")
+        wrong += 1
+    print("captures: %d cases, %d wrong" % (count + 1, wrong))
+    return wrong == 0
+
+
+def main():
+    if len(sys.argv) != 4 or sys.argv[2] not in ("write", "check"):
+        sys.exit(__doc__.strip())
+    _, calls, task, target = sys.argv
+    if task == "write":
+        write(calls, target)
+    elif not check(calls, target):
+        sys.exit(1)
 
 
 if __name__ == "__main__":
