@@ -8,6 +8,8 @@ TICKS, READ, WRITE, SIN, MODEM, RESET = range(6)
 NAMES = ("ticks", "read", "write", "sin", "modem", "reset")
 # The largest number of each field, in the order of a listing's line.
 FIELDS = ((65535,), (7, 255), (7, 255), (1,), (15,), ())
+# The bits that a kind's fields have; those between them and the kind are zero.
+FIELD_BITS = (16, 11, 11, 1, 4, 0)
 MOST_TICKS = FIELDS[TICKS][0]
 
 
@@ -45,8 +47,6 @@ def unpack(data):
 def parts(word):
     """A record's kind and fields, or None where it is bad."""
     kind, body = word >> 28, word & 0x0FFFFFFF
-    if kind > RESET:
+    if kind > RESET or body >> FIELD_BITS[kind]:
         return None
-    fields = {0: (), 1: (body,), 2: (body >> 8, body & 255)}[len(FIELDS[kind])]
-    good = all(field <= most for field, most in zip(fields, FIELDS[kind]))
-    return (kind,) + fields if good and record(kind, *fields) == word else None
+    return (kind,) + {0: (), 1: (body,), 2: (body >> 8, body & 255)}[len(FIELDS[kind])]

@@ -126,8 +126,9 @@ size_t replay_line(struct replay_answer answer, char line[REPLAY_LONGEST_LINE])
         length = snprintf(line, REPLAY_LONGEST_LINE, "agreed\n");
         break;
     case REPLAY_DIFFERS:
-        length = snprintf(line, REPLAY_LONGEST_LINE, "differs %" PRIu64 " %" PRIu32 " %" PRIu32 "\n",
-                          answer.place, answer.seen, answer.model);
+        length = snprintf(line, REPLAY_LONGEST_LINE,
+                          "differs %" PRIu64 " %" PRIu32 " %" PRIu32 "\n", answer.place,
+                          answer.seen, answer.model);
         break;
     default:
         length = snprintf(line, REPLAY_LONGEST_LINE, "refused %" PRIu32 " %" PRIu64 "\n",

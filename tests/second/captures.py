@@ -10,35 +10,18 @@ status where reading or writing fails.
 """
 
 import os
-import random
 import subprocess
 import sys
 
 import states as st
 from recorder import Recorder, utr
-from steps import FCR, IER, IIR, LCR, LSR, MCR, MSR, RBR, SCR, THR
+from steps import (EIGHT_BITS, EVEN_PARITY, FIVE_BITS, FCR, IER, IIR, LCR, LSR, MCR, MSR, RBR, SCR,
+                   THR)
 
-EIGHT_BITS = 0x03
-FIVE_BITS = 0x00
-EVEN_PARITY = 0x1B
 ALL_REGISTERS = range(8)
 
 
-def picker(seed):
-    draw = random.Random(seed).random
-    return lambda n: int(draw() * n)
-
-
 # ---- A driver's sequences ----
-
-def set_up(q, lcr=EIGHT_BITS, d=1, fcr=0x01, ier=0x00, mcr=0x00):
-    """What a driver writes first. FCR comes while LCR7 is set, so that it takes the size."""
-    q.divisor(d, 0x80 | lcr)
-    q.write(FCR, fcr)
-    q.write(LCR, lcr)
-    q.write(IER, ier)
-    q.write(MCR, mcr)
-
 
 def drain(q):
     """Reads the receive queue as long as LSR says that data waits."""
@@ -48,7 +31,7 @@ def drain(q):
 
 def auto_cts(q):
     """The transmitter waits for CTS, is released, and is held again within a character."""
-    set_up(q, d=2, mcr=0x20)
+    q.set_up(d=2, mcr=0x20)
     q.write(THR, 0x41, 0x42, 0x43)
     q.ticks(500)
     q.read(LSR, MSR)
@@ -76,7 +59,7 @@ def auto_cts(q):
 def auto_rts(fcr, level):
     """Characters on SIN up to the trigger and above, then read until the queue is empty."""
     def sequence(q):
-        set_up(q, FIVE_BITS, 1, fcr, 0x01, 0x22)
+        q.set_up(FIVE_BITS, 1, fcr, 0x01, 0x22)
         for i in range(level + 1):
             q.character(i & 31, FIVE_BITS)
             q.read(IIR)
@@ -86,7 +69,7 @@ def auto_rts(fcr, level):
 
 
 def loopback_data(q):
-    set_up(q, EVEN_PARITY, 3, 0x81, 0x07, 0x10)
+    q.set_up(EVEN_PARITY, 3, 0x81, 0x07, 0x10)
     for i in range(12):
         q.write(THR, 0x51 * i & 255)
     for _ in range(14):
@@ -117,7 +100,7 @@ def with_low_stop(byte, form=EIGHT_BITS):
 
 
 def parity_errors(q):
-    set_up(q, EVEN_PARITY, 2, 0x01, 0x05)
+    q.set_up(EVEN_PARITY, 2, 0x01, 0x05)
     for i, byte in enumerate((0x00, 0x41, 0xFF, 0x80, 0x01)):
         q.bits(with_flipped_parity(byte) if i % 2 else st.frame_bits(byte, EVEN_PARITY), 2)
         q.read(IIR)
@@ -127,7 +110,7 @@ def parity_errors(q):
 
 
 def framing_errors(q):
-    set_up(q, fcr=0x01, ier=0x05)
+    q.set_up(fcr=0x01, ier=0x05)
     for byte in (0x41, 0x00, 0xFF):
         q.bits(with_low_stop(byte))
         q.ticks(200)
@@ -137,7 +120,7 @@ def framing_errors(q):
 
 def breaks(q):
     for fcr in (0x00, 0x01):
-        set_up(q, fcr=fcr, ier=0x05)
+        q.set_up(fcr=fcr, ier=0x05)
         q.sin(0)
         for _ in range(4):
             q.ticks(51)
@@ -153,7 +136,7 @@ def breaks(q):
 
 def overruns(fcr, characters):
     def sequence(q):
-        set_up(q, FIVE_BITS, 1, fcr, 0x05)
+        q.set_up(FIVE_BITS, 1, fcr, 0x05)
         for i in range(characters):
             q.character(i & 31, FIVE_BITS)
         q.read(IIR, LSR, IIR, LSR)
@@ -165,7 +148,7 @@ def overruns(fcr, characters):
 def filled_queue(fcr, size):
     """More bytes to THR than fit, sent through loopback."""
     def sequence(q):
-        set_up(q, FIVE_BITS, 1, fcr, 0x00, 0x10)
+        q.set_up(FIVE_BITS, 1, fcr, 0x00, 0x10)
         q.read(IIR)
         for i in range(size + 2):
             q.write(THR, 7 * i + 1 & 255)
@@ -180,7 +163,7 @@ def filled_queue(fcr, size):
 
 
 def time_outs(q):
-    set_up(q, d=1, fcr=0x81, ier=0x01)
+    q.set_up(d=1, fcr=0x81, ier=0x01)
     q.character(0x41, EIGHT_BITS)
     for ticks in (633, 1, 1, 500):
         q.ticks(ticks)
@@ -216,7 +199,7 @@ def serve(q, left):
 def service_loop(fcr):
     def sequence(q):
         left = [40]
-        set_up(q, d=1, fcr=fcr, ier=0x0F, mcr=0x10)
+        q.set_up(d=1, fcr=fcr, ier=0x0F, mcr=0x10)
         for i in range(40):
             q.ticks(177 + 13 * i)
             if i % 8 == 7:
@@ -227,7 +210,7 @@ def service_loop(fcr):
 
 
 def divisor_changes(q):
-    set_up(q, d=12)
+    q.set_up(d=12)
     for d in (12, 1, 300, 2, 0, 7, 65535, 3):
         q.write(THR, d & 255)
         q.ticks(25)
@@ -245,7 +228,7 @@ def resets(q):
     """In the middle of a frame, of a reception, with data waiting, in loopback."""
     for mcr in (0x00, 0x10, 0x3F):
         q.write(SCR, 0x5A ^ mcr)
-        set_up(q, d=5, fcr=0x21, ier=0x0F, mcr=mcr)
+        q.set_up(d=5, fcr=0x21, ier=0x0F, mcr=mcr)
         q.write(THR, 0x41, 0x42)
         q.character(0x43, EIGHT_BITS, 5)
         q.sin(0)
@@ -284,7 +267,7 @@ def all_addresses(q):
 
 def tick_counts(q):
     """A count of 0 and the largest one, at a divisor where both can be told apart."""
-    set_up(q, d=800)
+    q.set_up(d=800)
     q.write(THR, 0x41)
     q.records.append(utr.record(utr.TICKS, 0))
     q.read(LSR)
@@ -340,8 +323,8 @@ LONG_ADDRESSES = (LSR, IIR, RBR, LSR, MSR, IER, MCR, SCR)
 
 def polling(q, records):
     """That many records, the first and last of each 32 a read; loopback traffic at divisor 1."""
-    pick = picker(records)
-    set_up(q, d=1, fcr=0xA1, ier=0x0F, mcr=0x10)
+    pick = st.picker(records)
+    q.set_up(d=1, fcr=0xA1, ier=0x0F, mcr=0x10)
     while len(q.records) < records:
         chance = pick(8)
         if len(q.records) % 32 in (0, 31) or chance < 4 or len(q.records) == records - 1:
@@ -387,16 +370,14 @@ def differing(words, place):
 
 BAD_KIND = 0x60000000
 
-# The lowest and the highest stray bit of each kind.
-STRAY_BITS = ((16, 27), (11, 27), (11, 27), (1, 27), (4, 27), (0, 27))
-
 
 def bad_records():
-    """A name and a bad record; without its stray bit each would agree on a fresh device."""
+    """A name and a bad record; without its stray bit each would agree on a fresh device.
+    The lowest and the highest stray bit of each kind."""
     good = (utr.record(utr.TICKS, 3), utr.record(utr.READ, LSR, 0x60), utr.record(utr.WRITE, SCR, 7),
             utr.record(utr.SIN, 1), utr.record(utr.MODEM, 0), utr.record(utr.RESET))
-    for kind, bits in enumerate(STRAY_BITS):
-        for bit in bits:
+    for kind, lowest in enumerate(utr.FIELD_BITS):
+        for bit in (lowest, 27):
             yield "stray-%s-bit-%d" % (utr.NAMES[kind], bit), good[kind] | 1 << bit
     for kind in (6, 7, 15):
         yield "kind-%d" % kind, kind << 28

@@ -14,7 +14,6 @@ difference; else it prints how much was compared and ends with 0.
 import argparse
 import fcntl
 import os
-import random
 import struct
 import subprocess
 import sys
@@ -24,6 +23,7 @@ import time
 
 import draws
 from recorder import Recorder
+from states import picker
 
 FIRST_CHUNKS = (2000, 20000)
 CHUNK = 100000
@@ -184,11 +184,7 @@ def main():
     parser.add_argument("--captures", type=int, default=1000)
     parser.add_argument("--save", default=".")
     given = parser.parse_args()
-    draw = random.Random(given.seed).random
-
-    def pick(n):
-        return int(draw() * n)
-
+    pick = picker(given.seed)
     print("seed %d" % given.seed)
     same = compare_scripts(given.program_a, given.program_b, pick, given.calls)
     if same and given.replays:

@@ -10,6 +10,7 @@ pick(n) gives a random number from 0 to n - 1. The bytes of reads in records com
 
 import states as st
 from recorder import utr
+from steps import Lines
 
 BIG = 4294967295
 
@@ -203,18 +204,6 @@ def foretell_segment(pick, lines):
     lines.append("state")
 
 
-def put_bits(lines, bits, pulses, divisor):
-    """Levels on SIN, equal neighbours in one go."""
-    at = 0
-    while at < len(bits):
-        end = at
-        while end < len(bits) and bits[end] == bits[at]:
-            end += 1
-        lines.append("sin %d" % bits[at])
-        lines.append("ticks %d" % (pulses * (end - at) * divisor))
-        at = end
-
-
 def put_character(pick, lines, lcr, divisor):
     """A character on SIN, with or without an error."""
     bits = st.frame_bits(st.random_byte(pick), lcr)
@@ -233,7 +222,7 @@ def put_character(pick, lines, lcr, divisor):
         bits = st.frame_bits(st.random_byte(pick), pick(64))
     if pick(6) == 0:
         bits.append(1)
-    put_bits(lines, bits, 16, divisor)
+    Lines(lines).bits(bits, divisor)
 
 
 def put_setup(pick, lines, divisor, lcr):
@@ -411,16 +400,13 @@ def record_steps(pick, recorder, most):
     return recorder.taken()[:most]
 
 
-STRAY_FROM = (16, 11, 11, 1, 4, 0)
-
-
 def bad_record(pick, word):
     """A bad kind, or a stray bit in the record or in one of any kind."""
     if pick(3) == 0:
         return (6 + pick(10)) << 28 | (word & 0x0FFFFFFF if pick(2) else 0)
     if pick(2) or word >> 28 > utr.RESET:
         word = pick(6) << 28
-    least = STRAY_FROM[word >> 28]
+    least = utr.FIELD_BITS[word >> 28]
     return word | 1 << (least, 27, least + pick(28 - least))[pick(3)]
 
 

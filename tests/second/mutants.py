@@ -581,16 +581,18 @@ MUTANTS = [
 
     # Replay.
     ("the differing read is done", "capture.c",
-     "            if (byte != byte_of(record))\n                return differs(i, byte_of(record), byte);\n"
+     "            if (byte != byte_of(record))\n"
+     "                return differs(i, byte_of(record), byte);\n"
      "            uart_end_read(u, address_of(record), byte);",
-     "            uart_end_read(u, address_of(record), byte);\n            if (byte != byte_of(record))\n"
+     "            uart_end_read(u, address_of(record), byte);\n"
+     "            if (byte != byte_of(record))\n"
      "                return differs(i, byte_of(record), byte);"),
     ("seen and model swapped", "capture.c", "return differs(i, byte_of(record), byte);",
      "return differs(i, byte, byte_of(record));"),
     ("places from 1", "capture.c", "return differs(i, byte_of(record), byte);",
      "return differs(i + 1u, byte_of(record), byte);"),
-    ("stray bits taken", "capture.c", "kind_of(record) <= KIND_RESET &&\n           (record & ~(KIND_MASK | fields[kind_of(record)])) == 0u;",
-     "kind_of(record) <= KIND_RESET;"),
+    ("stray bits taken", "capture.c", "(record & ~(KIND_MASK | fields[kind_of(record)])) == 0u;",
+     "true;"),
     ("stray bit 16 of ticks", "capture.c", "[KIND_TICKS] = 0xFFFFu", "[KIND_TICKS] = 0x1FFFFu"),
     ("stray bit 11 of a read", "capture.c", "[KIND_READ] = 0x7FFu", "[KIND_READ] = 0xFFFu"),
     ("stray bit 11 of a write", "capture.c", "[KIND_WRITE] = 0x7FFu", "[KIND_WRITE] = 0xFFFu"),

@@ -9,7 +9,6 @@ register has to be refused in each of the 348 places.
 usage: ranges.py PROGRAM [STATES]
 """
 
-import random
 import subprocess
 import sys
 
@@ -90,10 +89,7 @@ def main():
         sys.exit(__doc__.strip())
     program = sys.argv[1]
     count = int(sys.argv[2]) if len(sys.argv) == 3 else 3000
-    draw = random.Random(16750).random
-
-    def pick(n):
-        return int(draw() * n)
+    pick = st.picker(16750)
 
     wrong = compare(program, well_formed(pick, count))
     wrong += compare(program, damaged(pick, 3))

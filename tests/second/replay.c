@@ -40,7 +40,10 @@ static inline uint32_t word_at(const uint8_t *b)
     return (uint32_t)b[0] | (uint32_t)b[1] << 8 | (uint32_t)b[2] << 16 | (uint32_t)b[3] << 24;
 }
 
-/* The letters UTR, a zero byte, the version, a zero of 16 bits. The number of its refusal, or 0. */
+/*
+ * The letters UTR, a zero byte, the version, a zero of 16 bits. Answers the
+ * number of the refusal, or 0.
+ */
 static uint32_t header_number(const uint8_t *header, size_t bytes)
 {
     if (bytes < HEADER_BYTES)
@@ -85,8 +88,9 @@ int main(void)
     char line[REPLAY_LONGEST_LINE];
     uint8_t header[HEADER_BYTES];
     uint32_t number = header_number(header, fill(header, sizeof header));
-    struct replay_answer answer = number == UART_DONE ? replay_blocks() : replay_refused(number, 0u);
+    struct replay_answer answer;
 
+    answer = number == UART_DONE ? replay_blocks() : replay_refused(number, 0u);
     if (!stream_write(line, replay_line(answer, line)))
         stop("replay: writing");
     return EXIT_SUCCESS;

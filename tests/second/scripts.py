@@ -8,7 +8,6 @@ them with what they exercise. The answers are made by running `calls` on them.
 """
 
 import os
-import random
 import sys
 
 import captures
@@ -17,18 +16,15 @@ import rows
 import states as st
 from recorder import utr
 from states import BIGGEST
-from steps import FCR, IER, IIR, LCR, LSR, MCR, MSR, RBR, SCR, THR, Steps
+from steps import FCR, IER, IIR, LCR, LSR, MCR, MSR, RBR, SCR, THR, Lines
 
 
-class Script(Steps):
+class Script(Lines):
     """The lines of one script."""
 
     def __init__(self):
-        self.lines = []
+        super().__init__([])
         self.last_newline = True
-
-    def step(self, line):
-        self.lines.append(line)
 
     def raw(self, *lines):
         self.lines.extend(lines)
@@ -1240,10 +1236,7 @@ def long_line(q):
 
 
 def resets(q):
-    draw = random.Random(7502).random
-
-    def pick(n):
-        return int(draw() * n)
+    pick = st.picker(7502)
 
     for i in range(45):
         s = st.random_state(pick)
@@ -1334,10 +1327,7 @@ def foretelling(q):
 
 def driver(q):
     """A driver at work: register accesses, line bits and ticks from a seed."""
-    draw = random.Random(16750).random
-
-    def pick(n):
-        return int(draw() * n)
+    pick = st.picker(16750)
 
     for _ in range(30):
         d = (1, 1, 2, 3)[pick(4)]
@@ -1440,10 +1430,7 @@ def replays(q):
 def random_states(seed, count):
     def subject(q):
         """Random states near boundaries, one step, the state it leaves."""
-        draw = random.Random(seed).random
-
-        def pick(n):
-            return int(draw() * n)
+        pick = st.picker(seed)
 
         for _ in range(count):
             s = st.random_state(pick)

@@ -448,7 +448,7 @@ static void check_replay(const struct uart *first, uint32_t version, const uint3
         fail("replay's state", first, 0u, 1u);
 }
 
-/* Agreed; then with a bad record or another byte at one place, with a bad version, on a bad state. */
+/* Agreed; then with another byte or a bad record at one place, a bad version, a bad state. */
 static void check_replays(const struct uart *first)
 {
     struct uart states[REPLAY_RECORDS + 1u]; /* before each record, and at the end */

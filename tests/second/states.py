@@ -5,6 +5,8 @@ well-formed states, a random drawing of them that favours boundaries, and the
 table of damages: one for each range of document 01, section "The state".
 """
 
+import random
+
 PLACES = 348
 QUEUE = 64
 
@@ -22,6 +24,12 @@ SINGLES = tuple(range(0, 13)) + (L, BYTE, FORMAT, RX_COUNT) + tuple(range(RX_STA
 RX_IDLE, RX_MARK, RX_CHARACTER = 0, 1, 2
 
 BIGGEST = 4294967295
+
+
+def picker(seed):
+    """pick(n) gives a random number from 0 to n - 1, the same ones for the same seed."""
+    draw = random.Random(seed).random
+    return lambda n: int(draw() * n)
 
 
 # ---- Formulas ----

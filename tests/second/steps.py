@@ -2,6 +2,10 @@
 
 import states as st
 
+EIGHT_BITS = 0x03
+FIVE_BITS = 0x00
+EVEN_PARITY = 0x1B
+
 RBR, THR, IER, IIR, FCR, LCR, MCR, LSR, MSR, SCR = 0, 0, 1, 2, 2, 3, 4, 5, 6, 7
 
 
@@ -39,6 +43,14 @@ class Steps:
         self.write(1, d >> 8)
         self.write(LCR, lcr)
 
+    def set_up(self, lcr=EIGHT_BITS, d=1, fcr=0x01, ier=0x00, mcr=0x00):
+        """What a driver writes first. FCR comes while LCR7 is set, so that it takes the size."""
+        self.divisor(d, 0x80 | lcr)
+        self.write(FCR, fcr)
+        self.write(LCR, lcr)
+        self.write(IER, ier)
+        self.write(MCR, mcr)
+
     def bits(self, bits, d=1):
         """Levels on SIN, 16 pulses each; equal neighbours in one go."""
         at = 0
@@ -52,3 +64,13 @@ class Steps:
 
     def character(self, byte, form, d=1):
         self.bits(st.frame_bits(byte, form), d)
+
+
+class Lines(Steps):
+    """The steps as a list of lines."""
+
+    def __init__(self, lines):
+        self.lines = lines
+
+    def step(self, line):
+        self.lines.append(line)

@@ -13,11 +13,9 @@ TOP = os.path.dirname(os.path.dirname(os.path.abspath(__file__)))
 sys.path.insert(0, os.path.join(TOP, "tests", "second"))
 
 from recorder import Recorder, utr  # noqa: E402  (found by the path above)
-from steps import FCR, IER, IIR, LCR, LSR, MCR, MSR, RBR, SCR, THR  # noqa: E402
+from steps import EIGHT_BITS, FIVE_BITS, FCR, IER, IIR, LCR, LSR, MCR, MSR, RBR, SCR, THR  # noqa: E402
 
 LOOPBACK = 0x10
-FIVE_BITS = 0x00
-EIGHT_BITS = 0x03
 
 
 def begin(q, d, lcr=EIGHT_BITS):
@@ -25,13 +23,7 @@ def begin(q, d, lcr=EIGHT_BITS):
     q.sin(1)
     q.modem(0)
     q.reset()
-    q.write(LCR, 0x80)
-    q.write(0, d & 255)
-    q.write(1, d >> 8)
-    q.write(FCR, 0xA1)
-    q.write(LCR, lcr)
-    q.write(MCR, LOOPBACK)
-    q.write(IER, 0x0F)
+    q.set_up(lcr, d, 0xA1, 0x0F, LOOPBACK)
     q.write(SCR, 0)
 
 
