@@ -46,15 +46,15 @@ def bus_heavy(q, rng):
         q.read(IIR, LSR, RBR)
 
 
-def ticking(d, least, most):
-    """Loopback traffic with long waits between the accesses."""
+def ticking(d, characters, waits, least, most):
+    """Loopback traffic: some characters written, long waits, as many read."""
     def block(q, rng):
         begin(q, d)
         for _ in range(200):
-            q.write(THR, rng.randrange(256), rng.randrange(256))
-            for _ in range(4):
+            q.write(THR, *(rng.randrange(256) for _ in range(characters)))
+            for _ in range(waits):
                 q.ticks(rng.randrange(least, most + 1))
-            q.read(LSR, RBR)
+            q.read(LSR, *[RBR] * characters)
     return block
 
 
@@ -79,8 +79,8 @@ def mixed(q, rng):
 # Name, unit, block, about how many records in all.
 CASES = (
     ("replay, bus-heavy", "record", bus_heavy, 10_000_000),
-    ("replay, ticks at divisor 1", "tick", ticking(1, 300, 3000), 30_000),
-    ("replay, ticks at divisor 65535", "tick", ticking(65535, 65535, 65535), 8_000),
+    ("replay, ticks at divisor 1", "tick", ticking(1, 10, 1, 300, 3000), 400_000),
+    ("replay, ticks at divisor 65535", "tick", ticking(65535, 2, 4, 65535, 65535), 8_000),
     ("replay, 100 MB", "record", mixed, 25_000_000),
 )
 
