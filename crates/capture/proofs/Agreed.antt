@@ -9,16 +9,13 @@ use native.Mathlib.Omega.{arith}
 use borrow.Author.Tests.{eqb-true, not-false}
 use Rattle.recorder.specs.Record.{byte, good, isRead}
 use Rattle.device.specs.declared.State.{State}
+use Rattle.invariant.proofs.Settled.{Kept}
 use Rattle.capture.specs.declared.Outcome.{Outcome}
 use Rattle.capture.specs.declared.Replayed.{Replayed}
+use Rattle.capture.specs.File.{agreeing}
 use Rattle.capture.specs.Replay.{differs, refused, stepOf, stepsOf, modelByte, differing, replayFrom, Agrees}
-
--- An outcome is "agreed" or not.
-
-abbrev agreeing : Outcome → Bool
-agreeing Outcome.Agreed = true
-agreeing (Outcome.Differs place seen model) = false
-agreeing (Outcome.Refused number place) = false
+use Rattle.capture.proofs.Laws.{step-kept}
+use Rattle.capture.proofs.Ways.{each-way}
 
 pub not-refused : {number place : ℕ} → Outcome.Refused number place ≡ Outcome.Agreed → ⊥
 not-refused e = false≢true (ap agreeing e)
@@ -35,7 +32,7 @@ saw s w d r =
 
 -- with the first record in front
 joined : (s : State) (w : ℕ) (ws : List ℕ) (end : State) → differing s w ≡ false → Agrees (stepOf s w) ws end → Agrees s (w ∷ ws) end
-joined s w ws end d a = record { reads = reads; steps = a .steps }
+joined s w ws end d a = record { reads = reads; steps = a .steps; well = a .well }
   where
     reads : (before : List ℕ) (v : ℕ) (after : List ℕ) → w ∷ ws ≡ before ++ (v ∷ after) → isRead v ≡ true → byte v ≡ modelByte (stepsOf before s) v
     reads [] v after e r =
@@ -45,18 +42,17 @@ joined s w ws end d a = record { reads = reads; steps = a .steps }
         let same : w ≡ b = ap (λ (l : List ℕ). getD l 0 0) e in
         a .reads before v after (ap (drop 1) e) r ∙ ap (λ (x : ℕ). modelByte (stepsOf before (stepOf s x)) v) same
 
-pub agrees : (ws : List ℕ) (place : ℕ) (s : State) → replayFrom place s ws .outcome ≡ Outcome.Agreed → Agrees s ws (replayFrom place s ws .state)
+nothing : (before : List ℕ) (v : ℕ) (after : List ℕ) → [] ≡ before ++ (v ∷ after) → ⊥
+nothing [] v after h = absurd (omega (arith, ap (length {A = ℕ}) h))
+nothing (b ∷ before) v after h = absurd (omega (arith, ap (length {A = ℕ}) h))
+
+pub agrees : (ws : List ℕ) (place : ℕ) (s : State) → Kept s → replayFrom place s ws .outcome ≡ Outcome.Agreed → Agrees s ws (replayFrom place s ws .state)
 unfolding replayFrom
-agrees [] place s e =
-    record { reads = λ before v after h r. absurd (nothing before v after h); steps = refl }
-  where
-    nothing : (before : List ℕ) (v : ℕ) (after : List ℕ) → [] ≡ before ++ (v ∷ after) → ⊥
-    nothing [] v after h = absurd (omega (arith, ap (length {A = ℕ}) h))
-    nothing (b ∷ before) v after h = absurd (omega (arith, ap (length {A = ℕ}) h))
-agrees (w ∷ ws) place s e = go (λ e. agrees ws (suc place) (stepOf s w) e) (good w) (differing s w) refl refl
-  where
-    go : (let rest = replayFrom (suc place) (stepOf s w) ws in rest .outcome ≡ Outcome.Agreed → Agrees (stepOf s w) ws (rest .state)) →
-        (g d : Bool) → good w ≡ g → differing s w ≡ d → Agrees s (w ∷ ws) (replayFrom place s (w ∷ ws) .state)
-    go later false d eg ed = absurd (not-refused (simp eg at e))
-    go later true true eg ed = absurd (not-differs (simp (eg, ed) at e))
-    go later true false eg ed = simp (eg, ed) (joined s w ws _ ed (later (simp (eg, ed) at e)))
+agrees =
+    each-way (λ place s ws r. Kept s → r .outcome ≡ Outcome.Agreed → Agrees s ws (r .state))
+    (record {
+      end = λ place s k e. record { reads = λ before v after h r. absurd (nothing before v after h); steps = refl; well = k .well };
+      bad = λ place s w ws g k e. absurd (not-refused (simp g at e));
+      other = λ place s w ws g d k e. absurd (not-differs (simp (g, d) at e));
+      next = λ place s w ws g d later k e. simp (g, d) (joined s w ws _ d (later (step-kept s w k) (simp (g, d) at e)));
+    })

@@ -1,2 +1,4 @@
 pub mod Laws
+pub mod Ways
 pub mod Agreed
+pub mod Carried

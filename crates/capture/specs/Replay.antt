@@ -70,8 +70,10 @@ abbrev pub stepsOf : List ℕ → State → State
 stepsOf [] s = s
 stepsOf (w ∷ ws) s = stepsOf ws (stepOf s w)
 
--- what a replay that agrees says: every read saw what the model answers there, and the end state is that of the steps
+-- what a replay that agrees says: every read saw what the model answers there, and the end state is that of the steps,
+-- and well formed
 pub record Agrees (s : State) (words : List ℕ) (end : State) : Type 0 where
   pub reads : (before : List ℕ) (w : ℕ) (after : List ℕ) → words ≡ before ++ (w ∷ after) → isRead w ≡ true →
       byte w ≡ modelByte (stepsOf before s) w
   pub steps : end ≡ stepsOf words s
+  pub well : wellFormed end ≡ true

@@ -1,6 +1,7 @@
 // Captures: replay of the recorder's records from a state.
 //
 // The definitions that the contracts cite stand in `specs/Replay.antt`.
+pub mod parts;
 pub mod step;
 
 use device::State;

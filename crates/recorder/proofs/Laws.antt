@@ -1,5 +1,5 @@
 -- The words of a run of bytes, one after the other.
-use Prim.Native.Nat.{ℕ, suc, _+_, _-_, _*_, _/_, _≤_, _<_}
+use Prim.Native.Nat.{ℕ, suc, _+_, _-_, _*_, _/_, _%_, _≤_, _<_}
 use mathlib.Core.Path.{_≡_, refl, sym, ap, _∙_}
 use mathlib.Core.List.{List, [], _∷_, _++_, append-nil}
 use lib.ListN.{length, take, drop, getD, set, length-set, length-drop}
@@ -28,6 +28,36 @@ no-words (a ∷ []) h = refl
 no-words (a ∷ b ∷ []) h = refl
 no-words (a ∷ b ∷ c ∷ []) h = refl
 no-words (a ∷ b ∷ c ∷ d ∷ xs) h = absurd (omega arith)
+
+-- how many there are
+pub length-words : (xs : List ℕ) → length (wordsOf xs) ≡ length xs / 4
+length-words [] = refl
+length-words (a ∷ []) = refl
+length-words (a ∷ b ∷ []) = refl
+length-words (a ∷ b ∷ c ∷ []) = refl
+length-words (a ∷ b ∷ c ∷ d ∷ xs) = ap suc (length-words xs) ∙ omega arith
+
+-- the bytes of xs that are in none of its words
+abbrev pub left : List ℕ → List ℕ
+left xs = drop (4 * (length xs / 4)) xs
+
+left-more : (a b c d : ℕ) (xs : List ℕ) → left (a ∷ b ∷ c ∷ d ∷ xs) ≡ left xs
+left-more a b c d xs =
+    let four : 4 * (suc (suc (suc (suc (length xs)))) / 4) ≡ suc (suc (suc (suc (4 * (length xs / 4))))) = omega arith in
+    ap (λ (m : ℕ). drop m (a ∷ b ∷ c ∷ d ∷ xs)) four
+
+-- what follows a run of bytes begins with those that were left
+pub words-append : (xs ys : List ℕ) → wordsOf (xs ++ ys) ≡ wordsOf xs ++ wordsOf (left xs ++ ys)
+words-append [] ys = refl
+words-append (a ∷ []) ys = refl
+words-append (a ∷ b ∷ []) ys = refl
+words-append (a ∷ b ∷ c ∷ []) ys = refl
+words-append (a ∷ b ∷ c ∷ d ∷ xs) ys =
+    ap (λ (r : List ℕ). wordOf a b c d ∷ r)
+    (words-append xs ys ∙ ap (λ (r : List ℕ). wordsOf xs ++ wordsOf (r ++ ys)) (sym (left-more a b c d xs)))
+
+pub length-left : (xs : List ℕ) → length (left xs) ≡ length xs % 4
+length-left xs = length-drop (4 * (length xs / 4)) xs ∙ omega arith
 
 -- Decoding: the words before i are in place.
 pub record Decoding (bytes words₀ words : List ℕ) (i : ℕ) : Type 0 where

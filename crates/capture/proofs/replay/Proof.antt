@@ -1,5 +1,7 @@
 -- The refusals in their order: 1, then 7; else the records.
 use Rattle.capture.proofs.Agreed.{not-refused, agrees}
+use Rattle.invariant.proofs.Good.{Places}
+use Rattle.queue.proofs.Laws.{length-mapped}
 use Rattle.capture.specs.declared.Replayed.{Replayed}
 use Rattle.capture.specs.Replay.{replayOf}
 use Prim.Native.Nat.{_-_}
@@ -12,6 +14,9 @@ use Rattle.capture.proofs.refused.Reads as refused-reads
 use Rattle.capture.proofs.replay_records.Reads as replay-records-reads
 use Rattle.ranges.proofs.well_formed.Reads as well-formed-reads
 use Rattle.recorder.proofs.file.known.Reads as known-reads
+
+places : (c : tie.Start) → Places (c .args .s)
+places c = record { bytes-long = search needs; entries-long = search (length-mapped, c .good .0 .1 .1 .1 .1 .1 .1 .1 .1 .0, needs) }
 
 well-formed-requires : tie.Need-well-formed-requires
 well-formed-requires c κs = search needs
@@ -46,7 +51,7 @@ returns-3 : tie.Need-returns-3
 unfolding replayOf
 returns-3 c = let all = c .replay-records .ensures in (
   rw all (simp (sym (c .before .before .before .before .well-formed .ensures) ∙ not-false _ (c .before .before .before .if1 .left), sym (c .before .before .known .ensures) ∙ not-false _ (c .before .if2 .left))),
-  λ e. rw all (agrees _ 0 _ (sym (ap (λ (r : Replayed). r .outcome) all) ∙ e)),
+  λ e. rw all (agrees _ 0 _ (record { well = sym (c .before .before .before .before .well-formed .ensures) ∙ not-false _ (c .before .before .before .if1 .left); places = places (c .before .before .before .before .before .before) }) (sym (ap (λ (r : Replayed). r .outcome) all) ∙ e)),
 )
 
 pub replay-spec : {M : Type 1} → statement M

@@ -1,0 +1,52 @@
+-- Each case's place, n records on.
+use Rattle.capture.specs.File.{later}
+use Rattle.capture.specs.Replay.{valuesOf}
+use Rattle.capture.specs.declared.Outcome.{Outcome}
+use Prim.Native.Nat.{_-_}
+use mathlib.Core.Path.{sym, ap, _∙_}
+use native.Mathlib.Omega.{arith}
+use borrow.Author.Needs.{needs}
+use Rattle.capture.proofs.parts.onward.Statement.{statement}
+use Rattle.capture.proofs.parts.onward.Tie as tie
+use Rattle.capture.proofs.refused.Reads as refused-reads
+
+enum-told : tie.Need-enum-told
+enum-told c = search needs
+
+enum-known-o : tie.Need-enum-known-o
+enum-known-o c = search needs
+
+add-t11 : tie.Need-add-t11
+add-t11 c = let e = ap (λ (o : Outcome). valuesOf o .place) (c .before .o .given .1) in omega (arith, e, c .before .before .before .before .pre)
+
+enum-known-o-2 : tie.Need-enum-known-o-2
+enum-known-o-2 c = search needs
+
+add-refused : tie.Need-add-refused
+add-refused c = let e = ap (λ (o : Outcome). valuesOf o .place) (c .before .o2 .given .1) in omega (arith, e, c .before .before .before .before .pre)
+
+refused-requires : tie.Need-refused-requires
+refused-requires c κs = search needs
+
+returns : tie.Need-returns
+returns c = let e = c .enum-told .given .1 in ap (λ (o : Outcome). record { state = c .before .before .before .args .r .state; outcome = o }) (e ∙ ap (later (c .before .before .before .args .n)) (sym e))
+
+returns-2 : tie.Need-returns-2
+returns-2 c = ap (λ (o : Outcome). record { state = c .before .before .before .before .args .r .state; outcome = later (c .before .before .before .before .args .n) o }) (sym (c .before .o .given .1))
+
+returns-3 : tie.Need-returns-3
+returns-3 c = c .refused .ensures ∙ ap (λ (o : Outcome). record { state = c .before .before .before .before .before .args .r .state; outcome = later (c .before .before .before .before .before .args .n) o }) (sym (c .before .before .o2 .given .1))
+
+pub onward-spec : {M : Type 1} → statement M
+onward-spec =
+    tie.close
+    (tie.spec
+    enum-told
+    enum-known-o
+    add-t11
+    enum-known-o-2
+    add-refused
+    refused-requires
+    returns
+    returns-2
+    returns-3)

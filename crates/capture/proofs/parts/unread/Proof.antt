@@ -1,0 +1,18 @@
+use Prim.Native.Nat.{_-_}
+use borrow.Author.Needs.{needs}
+use Rattle.capture.proofs.parts.unread.Statement.{statement}
+use Rattle.capture.proofs.parts.unread.Tie as tie
+use Rattle.capture.proofs.refused.Reads as refused-reads
+use Rattle.device.proofs.fresh.Reads as fresh-reads
+
+fresh-requires : tie.Need-fresh-requires
+fresh-requires c κs = search needs
+
+refused-requires : tie.Need-refused-requires
+refused-requires c κs = search needs
+
+returns : tie.Need-returns
+returns c = rw (c .refused .ensures, c .before .fresh .ensures)
+
+pub unread-spec : {M : Type 1} → statement M
+unread-spec = tie.close (tie.spec fresh-requires refused-requires returns)

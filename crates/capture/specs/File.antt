@@ -1,0 +1,63 @@
+-- Replay of a whole file, from the fresh state (document 02 a), and of a file that comes in parts.
+use Prim.Native.Nat.{ℕ, _+_, _/_, _%_}
+use mathlib.Core.Path.{_≡_}
+use mathlib.Core.Bool.{Bool, true, false, cond, not, _&&_}
+use mathlib.Core.List.{List, [], _∷_}
+use lib.Dec.{eqb}
+use lib.ListN.{length, take, drop}
+use Rattle.recorder.specs.File.{wordsOf, goodHeader, version, known}
+use Rattle.device.specs.declared.State.{State}
+use Rattle.device.specs.State.{freshOf}
+use Rattle.device.specs.Ranges.{wellFormed}
+use Rattle.capture.specs.declared.Outcome.{Outcome}
+use Rattle.capture.specs.declared.Replayed.{Replayed}
+use Rattle.capture.specs.declared.parts.Progress.{Progress}
+use Rattle.capture.specs.Replay.{refused, replayOf}
+
+-- nothing has differed or been refused
+abbrev pub agreeing : Outcome → Bool
+agreeing Outcome.Agreed = true
+agreeing (Outcome.Differs place seen model) = false
+agreeing (Outcome.Refused number place) = false
+
+-- one to three bytes left at the end of the records' bytes: 8 at their place, where every record before agrees
+unfoldable pub ended : List ℕ → Replayed → Replayed
+ended bytes r =
+    cond (agreeing (r .outcome) && not (eqb (length bytes % 4) 0)) (refused 8 (r .state) (length bytes / 4)) r
+
+-- the records that these bytes hold, to the end of the file
+unfoldable pub recordsOf : ℕ → State → List ℕ → Replayed
+recordsOf version s bytes = ended bytes (replayOf version s (wordsOf bytes))
+
+-- the words of the header, and the bytes after it: 8 for a file shorter than the header, then 6 for a bad mark or a
+-- nonzero pad; an unknown version is the records'
+unfoldable pub headedOf : List ℕ → List ℕ → Replayed
+headedOf [] bytes = refused 8 freshOf 0
+headedOf (first ∷ []) bytes = refused 8 freshOf 0
+headedOf (first ∷ second ∷ more) bytes =
+    cond (goodHeader first second) (recordsOf (version second) freshOf bytes) (refused 6 freshOf 0)
+
+-- a file of these bytes
+unfoldable pub captureOf : List ℕ → Replayed
+captureOf bytes = headedOf (wordsOf (take 8 bytes)) (drop 8 bytes)
+
+-- A file that comes in parts.
+
+-- the place of an outcome, counted from n records earlier
+abbrev pub later : ℕ → Outcome → Outcome
+later n Outcome.Agreed = Outcome.Agreed
+later n (Outcome.Differs place seen model) = Outcome.Differs (n + place) seen model
+later n (Outcome.Refused number place) = Outcome.Refused number (n + place)
+
+abbrev pub onward : ℕ → Replayed → Replayed
+onward n r = record { state = r .state; outcome = later n (r .outcome) }
+
+-- the answer for the file, where these bytes are still to come
+unfoldable pub restOf : Progress → List ℕ → Replayed
+restOf p bytes =
+    cond (agreeing (p .replayed .outcome)) (onward (p .place) (recordsOf (p .version) (p .replayed .state) bytes)) (p .replayed)
+
+-- what the records still to come need: a well-formed state, and a known version
+pub record Ready (p : Progress) : Type 0 where
+  pub well : wellFormed (p .replayed .state) ≡ true
+  pub known-version : known (p .version) ≡ true
