@@ -73,6 +73,7 @@ fn unread(number: u8) -> Progress
 pub fn begin(header: &[u8]) -> Progress
     ensures { λ r. ⌜ (length (now (header .entry)) ≡ 8 → (rest : List ℕ) → restOf r rest ≡ captureOf (now (header .entry) ++ rest)) ⌝ }
     ensures { λ r. ⌜ (length (now (header .entry)) < 8 → restOf r [] ≡ captureOf (now (header .entry))) ⌝ }
+    ensures { λ r. ⌜ r .place ≡ 0 ⌝ }
 {
     if header.len() != 8 {
         return unread(TOO_SHORT);

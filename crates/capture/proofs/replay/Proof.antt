@@ -49,10 +49,11 @@ replay-records-requires c κs = sym (c .before .before .before .well-formed .ens
 
 returns-3 : tie.Need-returns-3
 unfolding replayOf
-returns-3 c = let all = c .replay-records .ensures in (
-  rw all (simp (sym (c .before .before .before .before .well-formed .ensures) ∙ not-false _ (c .before .before .before .if1 .left), sym (c .before .before .known .ensures) ∙ not-false _ (c .before .if2 .left))),
-  λ e. rw all (agrees _ 0 _ (record { well = sym (c .before .before .before .before .well-formed .ensures) ∙ not-false _ (c .before .before .before .if1 .left); places = places (c .before .before .before .before .before .before) }) (sym (ap (λ (r : Replayed). r .outcome) all) ∙ e)),
-)
+returns-3 c =
+    let all = c .replay-records .ensures in (
+      rw all (simp (sym (c .before .before .before .before .well-formed .ensures) ∙ not-false _ (c .before .before .before .if1 .left), sym (c .before .before .known .ensures) ∙ not-false _ (c .before .if2 .left))),
+      λ e. rw all (agrees _ 0 _ (record { well = sym (c .before .before .before .before .well-formed .ensures) ∙ not-false _ (c .before .before .before .if1 .left); places = places (c .before .before .before .before .before .before) }) (sym (ap (λ (r : Replayed). r .outcome) all) ∙ e)),
+    )
 
 pub replay-spec : {M : Type 1} → statement M
 replay-spec =

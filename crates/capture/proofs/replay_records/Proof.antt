@@ -54,7 +54,8 @@ loop-less : tie.Need-loop-less Inv-loop μ-loop
 loop-less c = search needs
 
 loop-again : tie.Need-loop-again Inv-loop μ-loop
-loop-again c = let w = (getD (c .before .before .before .before .before .before .before .before .before .args .records .now) (c .before .before .before .before .before .before .before .loop .i) 0) in
+loop-again c =
+    let w = (getD (c .before .before .before .before .before .before .before .before .before .args .records .now) (c .before .before .before .before .before .before .before .loop .i) 0) in
     rw (c .step .ensures)
     (replay-turns (c .before .before .before .before .before .before .before .loop .inv) (omega arith)
     (sym (c .before .before .before .before .good2 .ensures) ∙ not-false _ (c .before .before .before .if2 .left))
@@ -76,7 +77,8 @@ loop-less-2 : tie.Need-loop-less-2 Inv-loop μ-loop
 loop-less-2 c = search needs
 
 loop-again-2 : tie.Need-loop-again-2 Inv-loop μ-loop
-loop-again-2 c = let w = (getD (c .before .before .before .before .before .before .before .before .before .before .before .before .before .args .records .now) (c .before .before .before .before .before .before .before .before .before .before .before .loop .i) 0) in
+loop-again-2 c =
+    let w = (getD (c .before .before .before .before .before .before .before .before .before .before .before .before .before .args .records .now) (c .before .before .before .before .before .before .before .before .before .before .before .loop .i) 0) in
     let t = c .before .before .before .before .before .before .before .before .before .before .before .loop .t in
     let is-read : isRead w ≡ true = eq-eqb _ _ (sym (c .before .before .before .before .before .before .kind .ensures) ∙ c .before .before .before .before .before .if3 .left) in
     let model : c .before .before .before .read .result .byte ≡ modelByte t w =
@@ -125,7 +127,8 @@ refused-requires : tie.Need-refused-requires Inv-loop μ-loop
 refused-requires c κs = search needs
 
 returns-2 : tie.Need-returns-2 Inv-loop μ-loop
-returns-2 c = let e = same (c .before .before .before .before .before .before) in
+returns-2 c =
+    let e = same (c .before .before .before .before .before .before) in
     let records = c .before .before .before .before .before .before .before .before .before .args .records .now in
     c .refused .ensures ∙ ap (refused 8 (c .before .before .before .before .before .before .before .loop .t)) e
     ∙ replay-refuses (c .before .before .before .before .before .before .before .loop .inv) (omega (arith, c .before .before .before .before .before .if5 .left, e))
@@ -135,7 +138,8 @@ byte-requires-2 : tie.Need-byte-requires-2 Inv-loop μ-loop
 byte-requires-2 c κs = search needs
 
 returns-3 : tie.Need-returns-3 Inv-loop μ-loop
-returns-3 c = let e = same (c .before .before .before .before .before .before) in
+returns-3 c =
+    let e = same (c .before .before .before .before .before .before) in
     let i = c .before .before .before .before .before .before .before .loop .i in
     let t = c .before .before .before .before .before .before .before .loop .t in
     let records = c .before .before .before .before .before .before .before .before .before .args .records .now in

@@ -40,7 +40,7 @@ unread-requires c κs = search needs
 returns : tie.Need-returns
 returns c = (
   λ h rest. absurd (c .before .if1 .taken h),
-  λ h. rw (c .unread .ensures) (rest-none (unread 8) [] refl ∙ sym (short-file _ h)),
+  (λ h. rw (c .unread .ensures) (rest-none (unread 8) [] refl ∙ sym (short-file _ h)), ap (λ (p : Progress). p .place) (c .unread .ensures)),
 )
 
 slice-aggregate-decode : tie.Need-slice-aggregate-decode
@@ -63,14 +63,15 @@ unread-requires-2 c κs = search needs
 
 returns-2 : tie.Need-returns-2
 unfolding headedOf
-returns-2 c = let header = c .before .before .before .before .before .before .before .before .args .header .now in
+returns-2 c =
+    let header = c .before .before .before .before .before .before .before .before .args .header .now in
     let words = c .before .before .before .before .decode .last .1 .0 in
     let pair : wordsOf header ≡ getD words 0 0 ∷ getD words 1 0 ∷ [] =
     sym (c .before .before .before .before .decode .ensures .0) ∙ two words (c .before .before .before .before .decode .result) (c .before .before .before .before .decode .kept .1 .0) (omega (arith, c .before .before .before .before .decode .ensures .1 .0, c .before .before .before .before .before .before .if1 .left))
     in
     let bad : goodHeader (getD words 0 0) (getD words 1 0) ≡ false = sym (c .before .before .good-header .ensures) ∙ not-true _ (c .before .if2 .taken) in (
       λ h rest. rw (c .unread2 .ensures) (rest-none (unread 6) rest refl ∙ sym (headed-file header rest h ∙ ap (λ (ws : List ℕ). headedOf ws rest) pair ∙ (simp bad))),
-      λ h. absurd (omega (arith, c .before .before .before .before .before .before .if1 .left)),
+      (λ h. absurd (omega (arith, c .before .before .before .before .before .before .if1 .left)), ap (λ (p : Progress). p .place) (c .unread2 .ensures)),
     )
 
 array-read-version : tie.Need-array-read-version
@@ -84,7 +85,8 @@ fresh-requires c κs = search needs
 
 returns-3 : tie.Need-returns-3
 unfolding headedOf
-returns-3 c = let header = c .before .before .before .before .before .before .before .before .before .args .header .now in
+returns-3 c =
+    let header = c .before .before .before .before .before .before .before .before .before .args .header .now in
     let words = c .before .before .before .before .before .decode .last .1 .0 in
     let pair : wordsOf header ≡ getD words 0 0 ∷ getD words 1 0 ∷ [] =
     sym (c .before .before .before .before .before .decode .ensures .0) ∙ two words (c .before .before .before .before .before .decode .result) (c .before .before .before .before .before .decode .kept .1 .0) (omega (arith, c .before .before .before .before .before .decode .ensures .1 .0, c .before .before .before .before .before .before .before .if1 .left))
@@ -93,7 +95,7 @@ returns-3 c = let header = c .before .before .before .before .before .before .be
       λ h rest.
           rw (c .fresh .ensures, c .before .version .ensures)
           (rest-records (record { version = version (getD words 1 0); place = 0; replayed = agreed freshOf }) rest refl ∙ onward-none (recordsOf (version (getD words 1 0)) freshOf rest) ∙ sym (headed-file header rest h ∙ ap (λ (ws : List ℕ). headedOf ws rest) pair ∙ (simp fit))),
-      λ h. absurd (omega (arith, c .before .before .before .before .before .before .before .if1 .left)),
+      (λ h. absurd (omega (arith, c .before .before .before .before .before .before .before .if1 .left)), refl),
     )
 
 pub begin-spec : {M : Type 1} → statement M

@@ -30,7 +30,8 @@ same-length : tie.Need-same-length
 same-length c = search needs
 
 returns : tie.Need-returns
-returns c = let start = c .before .before .before .before .before .before .before .before .before in
+returns c =
+    let start = c .before .before .before .before .before .before .before .before .before in
     let p = start .args .p in
     let bytes = start .args .bytes .now in
     let q = c .before .before .before .before .before .go-on .result in
@@ -43,7 +44,8 @@ same-length-2 : tie.Need-same-length-2
 same-length-2 c = search needs
 
 returns-2 : tie.Need-returns-2
-returns-2 c = let start = c .before .before .before .before .before .before .before .before .before .before in
+returns-2 c =
+    let start = c .before .before .before .before .before .before .before .before .before .before in
     let p = start .args .p in
     let bytes = start .args .bytes .now in
     let q = c .before .before .before .before .before .before .go-on .result in
@@ -61,7 +63,8 @@ same-length-3 : tie.Need-same-length-3
 same-length-3 c = search needs
 
 returns-3 : tie.Need-returns-3
-returns-3 c = let start = c .before .before .before .before .before .before .before .before .before .before .before .before in
+returns-3 c =
+    let start = c .before .before .before .before .before .before .before .before .before .before .before .before in
     let p = start .args .p in
     let bytes = start .args .bytes .now in
     let q = c .before .before .before .before .before .before .before .before .go-on .result in

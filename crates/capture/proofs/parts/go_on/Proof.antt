@@ -24,7 +24,8 @@ agreeing-requires : tie.Need-agreeing-requires
 agreeing-requires c κs = search needs
 
 returns : tie.Need-returns
-returns c = let p = c .before .before .before .before .before .args .p in
+returns c =
+    let p = c .before .before .before .before .before .args .p in
     let e : agreeing (p .replayed .outcome) ≡ false = sym (c .before .agreeing .ensures) ∙ not-true _ (c .if1 .taken) in
     (λ rest. rest-none p _ e ∙ sym (rest-none p _ e), (omega arith, λ h. absurd (true≢false (sym h ∙ e))))
 
@@ -44,7 +45,8 @@ add-t17 : tie.Need-add-t17
 add-t17 c = search needs
 
 onward-requires : tie.Need-onward-requires
-onward-requires c κs = let start = c .before .before .before .before .before .before .before .before .before .before .before .before in
+onward-requires c κs =
+    let start = c .before .before .before .before .before .before .before .before .before .before .before .before in
     let within : valuesOf (c .replay .result .outcome) .place ≤ length (take (c .before .before .before .before .before .decode .result) (c .before .before .before .before .before .decode .last .1 .0)) = rw (c .replay .ensures .0) (place-within (start .args .p .version) (start .args .p .replayed .state) _) in
     omega (arith, within, start .pre .1, start .pre .0, c .before .before .before .before .before .decode .ensures .1)
 
@@ -52,7 +54,8 @@ same-length : tie.Need-same-length
 same-length c = search needs
 
 returns-2 : tie.Need-returns-2
-returns-2 c = let start = c .before .before .before .before .before .before .before .before .before .before .before .before .before in
+returns-2 c =
+    let start = c .before .before .before .before .before .before .before .before .before .before .before .before .before in
     let p = start .args .p in
     let s = p .replayed .state in
     let bytes = start .args .bytes .now in

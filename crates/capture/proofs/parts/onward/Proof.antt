@@ -17,19 +17,22 @@ enum-known-o : tie.Need-enum-known-o
 enum-known-o c = search needs
 
 add-t11 : tie.Need-add-t11
-add-t11 c = let e = ap (λ (o : Outcome). valuesOf o .place) (c .before .o .given .1) in omega (arith, e, c .before .before .before .before .pre)
+add-t11 c =
+    let e = ap (λ (o : Outcome). valuesOf o .place) (c .before .o .given .1) in omega (arith, e, c .before .before .before .before .pre)
 
 enum-known-o-2 : tie.Need-enum-known-o-2
 enum-known-o-2 c = search needs
 
 add-refused : tie.Need-add-refused
-add-refused c = let e = ap (λ (o : Outcome). valuesOf o .place) (c .before .o2 .given .1) in omega (arith, e, c .before .before .before .before .pre)
+add-refused c =
+    let e = ap (λ (o : Outcome). valuesOf o .place) (c .before .o2 .given .1) in omega (arith, e, c .before .before .before .before .pre)
 
 refused-requires : tie.Need-refused-requires
 refused-requires c κs = search needs
 
 returns : tie.Need-returns
-returns c = let e = c .enum-told .given .1 in ap (λ (o : Outcome). record { state = c .before .before .before .args .r .state; outcome = o }) (e ∙ ap (later (c .before .before .before .args .n)) (sym e))
+returns c =
+    let e = c .enum-told .given .1 in ap (λ (o : Outcome). record { state = c .before .before .before .args .r .state; outcome = o }) (e ∙ ap (later (c .before .before .before .args .n)) (sym e))
 
 returns-2 : tie.Need-returns-2
 returns-2 c = ap (λ (o : Outcome). record { state = c .before .before .before .before .args .r .state; outcome = later (c .before .before .before .before .args .n) o }) (sym (c .before .o .given .1))

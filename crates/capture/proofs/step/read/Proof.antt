@@ -10,7 +10,8 @@ use Rattle.device.proofs.autoflow.settle.Reads as settle-reads
 use Rattle.registers.proofs.read_register.Reads as read-register-reads
 
 read-register-requires : tie.Need-read-register-requires
-read-register-requires c κs = let g = good-of (c .args .s) (c .pre .0) in
+read-register-requires c κs =
+    let g = good-of (c .args .s) (c .pre .0) in
     record { divisor = g .registers .divisor-most; changes = g .latches .changes-most; modem = g .settings .modem-most }
 
 settle-requires : tie.Need-settle-requires

@@ -65,7 +65,8 @@ same-length : tie.Need-same-length Inv-loop μ-loop
 same-length c = c .before .loop .inv .long
 
 returns : tie.Need-returns Inv-loop μ-loop
-returns c = let bytes = c .before .before .before .before .args .bytes .now in
+returns c =
+    let bytes = c .before .before .before .before .args .bytes .now in
     let words = c .before .loop .words in
     let n : c .before .loop .i ≡ length bytes / 4 = omega (arith, c .before .loop .inv .most) in
     let room : length bytes / 4 ≤ length words = omega (arith, c .before .loop .inv .long) in (

@@ -23,7 +23,8 @@ returns-6 : tie.Need-returns-6
 returns-6 c = simp (c .match .keys6)
 
 returns-7 : tie.Need-returns-7
-returns-7 c = let r = c .match .rest in simp (ne-eqb, r .1, r .0 .1, r .0 .0 .1, r .0 .0 .0 .1, r .0 .0 .0 .0 .1, r .0 .0 .0 .0 .0 .1)
+returns-7 c =
+    let r = c .match .rest in simp (ne-eqb, r .1, r .0 .1, r .0 .0 .1, r .0 .0 .0 .1, r .0 .0 .0 .0 .1, r .0 .0 .0 .0 .0 .1)
 
 pub room-spec : {M : Type 1} → statement M
 room-spec =
