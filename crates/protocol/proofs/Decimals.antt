@@ -4,14 +4,14 @@ use Prim.Native.Nat.{ℕ, zero, suc, _+_, _-_, _*_, _/_, _%_, _^_, _≤_, _<_}
 use mathlib.Core.Path.{_≡_, refl, sym, ap, _∙_}
 use mathlib.Core.Bool.{Bool, true, false, cond, _&&_}
 use mathlib.Core.List.{List, [], _∷_, _++_, append-assoc, append-nil}
-use lib.ListN.{length, getD, take, drop, set, length-append, length-set, drop-of-length-le}
+use lib.ListN.{length, getD, take, drop, length-append, drop-of-length-le}
 use lib.Dec.{leb, ltb}
 use native.Mathlib.Decide.{decLt}
 use native.Mathlib.Omega.{arith}
 use borrow.Author.Tests.{lt-ltb, le-ltb, le-leb, lt-leb, eq-eqb, ne-eqb}
-use Rattle.protocol.specs.Decimal.{valueAfter, numberAfter, numberOf, glyph, digitsOf, decimalOf, separator, lineOf}
+use Rattle.protocol.specs.Decimal.{valueAfter, numberAfter, numberOf, glyph, digitsOf, decimalOf, longDecimalOf, wordOf, separator, lineOf}
 use Rattle.protocol.specs.Text.{Appended}
-use Rattle.protocol.proofs.Texts.{drop-at, appended-one, appended-then}
+use Rattle.protocol.proofs.Texts.{drop-at}
 
 -- Reading.
 
@@ -120,21 +120,21 @@ more-digits (suc k) n h = go (ltb n 10) (more-digits k (n / 10) (omega arith))
     go true e = refl
     go false e = ap (λ (ds : List ℕ). ds ++ last) e
 
-pub one-digit : (n : ℕ) → n < 10 → glyph n ∷ [] ≡ decimalOf n
+pub one-digit : (n : ℕ) → n < 10 → glyph n ∷ [] ≡ longDecimalOf n
 unfolding digitsOf
 one-digit n h = simp (lt-ltb _ _ h)
 
-pub last-digit : (n : ℕ) → 10 ≤ n → n < 2 ^ 32 → decimalOf (n / 10) ++ (glyph (n % 10) ∷ []) ≡ decimalOf n
+pub last-digit : (n : ℕ) → 10 ≤ n → n < 2 ^ 64 → longDecimalOf (n / 10) ++ (glyph (n % 10) ∷ []) ≡ longDecimalOf n
 unfolding digitsOf
 last-digit n h k =
-    let l : n / 10 < 10 ^ 9 = omega arith in
-    simp (le-ltb _ _ h) (ap (λ (ds : List ℕ). ds ++ (glyph (n % 10) ∷ [])) (sym (more-digits 8 (n / 10) l)))
+    let l : n / 10 < 10 ^ 19 = omega arith in
+    simp (le-ltb _ _ h) (ap (λ (ds : List ℕ). ds ++ (glyph (n % 10) ∷ [])) (sym (more-digits 18 (n / 10) l)))
 
-pub one-long : (n : ℕ) → n < 10 → length (decimalOf n) ≡ 1
+pub one-long : (n : ℕ) → n < 10 → length (longDecimalOf n) ≡ 1
 one-long n h = ap length (sym (one-digit n h))
 
-pub more-long : (n : ℕ) → 10 ≤ n → n < 2 ^ 32 → length (decimalOf n) ≡ length (decimalOf (n / 10)) + 1
-more-long n h k = ap length (sym (last-digit n h k)) ∙ length-append (decimalOf (n / 10)) (glyph (n % 10) ∷ [])
+pub more-long : (n : ℕ) → 10 ≤ n → n < 2 ^ 64 → length (longDecimalOf n) ≡ length (longDecimalOf (n / 10)) + 1
+more-long n h k = ap length (sym (last-digit n h k)) ∙ length-append (longDecimalOf (n / 10)) (glyph (n % 10) ∷ [])
 
 digits-room : (k n : ℕ) → length (digitsOf k n) ≤ suc k
 unfolding digitsOf
@@ -145,8 +145,30 @@ digits-room (suc k) n = go (ltb n 10) (digits-room k (n / 10))
     go true r = omega arith
     go false r = simp length-append (omega arith)
 
+-- a number of at most k + 1 digits, where more may stand
+digits-among : (j k n : ℕ) → n < 10 ^ suc k → digitsOf k n ≡ digitsOf (j + k) n
+digits-among zero k n h =
+    let e : k ≡ 0 + k = omega arith in
+    ap (λ (m : ℕ). digitsOf m n) e
+digits-among (suc j) k n h =
+    let e : j + suc k ≡ suc j + k = omega arith in
+    more-digits k n h ∙ digits-among j (suc k) n (omega arith) ∙ ap (λ (m : ℕ). digitsOf m n) e
+
+-- the text of a number of 32 bits
+pub long-decimal : (n : ℕ) → n < 2 ^ 32 → longDecimalOf n ≡ decimalOf n
+long-decimal n h = sym (digits-among 10 9 n (omega arith))
+
 pub decimal-room : (n : ℕ) → length (decimalOf n) ≤ 10
 decimal-room n = digits-room 9 n
+
+pub long-room : (n : ℕ) → length (longDecimalOf n) ≤ 20
+long-room n = digits-room 19 n
+
+pub word-long : (n after : ℕ) → length (wordOf n after) ≡ length (longDecimalOf n) + 1
+word-long n after = length-append (longDecimalOf n) (after ∷ [])
+
+pub byte-room : (n : ℕ) → n < 256 → length (longDecimalOf n) ≤ 3
+byte-room n h = rw (← digits-among 17 2 n (omega arith)) (digits-room 2 n)
 
 -- Writing a line.
 
@@ -174,22 +196,20 @@ write-long : (ns : List ℕ) (i : ℕ) → i < length ns → length (lineOf (dro
 write-long ns i h = ap length (write-at ns i h) ∙ length-append (decimalOf (getD ns i 0)) (separator (drop (i + 1) ns) ∷ lineOf (drop (i + 1) ns))
 
 module _ {ns from : List ℕ} {at : ℕ} {to : List ℕ} {end i : ℕ} where
-  pub write-room : Writing ns from at to end i → i < length ns → at + length (lineOf ns) ≤ length from → end + length (decimalOf (getD ns i 0)) < length to
-  write-room w h r = omega (arith, w .place, w .long, write-long ns i h)
+  pub write-room : (n : ℕ) → Writing ns from at to end i → i < length ns → at + length (lineOf ns) ≤ length from → n ≡ getD ns i 0 → n < 2 ^ 32 → end + length (longDecimalOf n) < length to
+  write-room n w h r e s = omega (arith, w .place, w .long, write-long ns i h, ap length (long-decimal n s), ap (λ (m : ℕ). length (decimalOf m)) e)
 
-  pub write-turns : (to′ : List ℕ) (next v : ℕ) → Writing ns from at to end i → i < length ns → at + length (lineOf ns) ≤ length from → length to′ ≡ length to → Appended to end (decimalOf (getD ns i 0)) to′ next → v ≡ separator (drop (i + 1) ns) → Writing ns from at (set to′ next v) (next + 1) (i + 1)
-  write-turns to′ next v w h r l p e =
-      let d : List ℕ = decimalOf (getD ns i 0) in
-      let k : next < length to′ = omega (arith, write-room w h r, p .place) in
-      let q = appended-then p (appended-one to′ next v (separator (drop (i + 1) ns)) k e) in
+  pub write-turns : (to′ : List ℕ) (next n v : ℕ) → Writing ns from at to end i → i < length ns → n ≡ getD ns i 0 → n < 2 ^ 32 → v ≡ separator (drop (i + 1) ns) → length to′ ≡ length to → Appended to end (wordOf n v) to′ next → Writing ns from at to′ next (i + 1)
+  write-turns to′ next n v w h e s d l p =
+      let q : wordOf n v ≡ decimalOf (getD ns i 0) ++ (separator (drop (i + 1) ns) ∷ []) = ap (λ (ds : List ℕ). ds ++ (v ∷ [])) (long-decimal n s ∙ ap decimalOf e) ∙ rw d in
       record {
         most = omega arith;
-        long = length-set to′ next v ∙ l ∙ w .long;
+        long = l ∙ w .long;
         rest =
             w .rest
             ∙ ap (λ (s : List ℕ). take end to ++ s) (write-at ns i h)
-            ∙ rw (q .holds) (simp append-assoc);
-        place = omega (arith, w .place, p .place, write-long ns i h);
+            ∙ rw (p .holds, q) (simp append-assoc);
+        place = omega (arith, w .place, p .place, ap length q, length-append (decimalOf (getD ns i 0)) (separator (drop (i + 1) ns) ∷ []), write-long ns i h);
       }
 
   pub write-ends : Writing ns from at to end i → length ns ≤ i → Appended from at (lineOf ns) to end

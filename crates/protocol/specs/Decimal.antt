@@ -1,4 +1,4 @@
--- Numbers of 32 bits as text: decimal digits, with no sign and no leading zero.
+-- Numbers as text: decimal digits, with no sign and no leading zero.
 use Prim.Native.Nat.{ℕ, zero, suc, _+_, _-_, _*_, _/_, _%_}
 use mathlib.Core.Bool.{Bool, true, false, cond, not, _&&_}
 use mathlib.Core.List.{List, [], _∷_, _++_}
@@ -46,6 +46,14 @@ digitsOf (suc k) n = cond (ltb n 10) (glyph n ∷ []) (digitsOf k (n / 10) ++ (g
 -- a number of 32 bits, which has at most ten digits
 abbrev pub decimalOf : ℕ → List ℕ
 decimalOf n = digitsOf 9 n
+
+-- a number of 64 bits, which has at most twenty
+abbrev pub longDecimalOf : ℕ → List ℕ
+longDecimalOf n = digitsOf 19 n
+
+-- such a number and the byte that follows it
+abbrev pub wordOf : ℕ → ℕ → List ℕ
+wordOf n after = longDecimalOf n ++ (after ∷ [])
 
 -- what follows a number in a line: a space where more numbers come, a newline at the end
 abbrev pub separator : List ℕ → ℕ

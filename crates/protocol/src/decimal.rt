@@ -1,10 +1,10 @@
-// Decimal numbers of 32 bits, read from a word and written into a buffer.
+// Decimal numbers: of 32 bits read from a word, of 64 bits written into a buffer.
 ghost use mathlib.Core.Path.{_≡_};
 ghost use mathlib.Core.Bool.{cond};
-ghost use Prim.Native.Nat.{_+_, _-_, _≤_, _<_};
+ghost use Prim.Native.Nat.{_+_, _-_, _^_, _≤_, _<_};
 ghost use lib.ListN.{length};
 ghost use Rattle.protocol.specs.Text.{Appended};
-ghost use Rattle.protocol.specs.Decimal.{numberAfter, numberOf, decimalOf, lineOf};
+ghost use Rattle.protocol.specs.Decimal.{numberAfter, numberOf, longDecimalOf, wordOf, lineOf};
 ghost use Rattle.protocol.specs.Decimal.{glyph as «glyph-of»};
 
 // What a word says: a number, or none.
@@ -68,7 +68,7 @@ pub fn number_of(w: &[u8]) -> Number
 }
 
 // The character of a digit.
-fn glyph(d: u32) -> u8
+fn glyph(d: u64) -> u8
     requires { ⌜ d < 10 ⌝ }
     ensures { λ r. ⌜ r ≡ «glyph-of» d ⌝ }
 {
@@ -76,9 +76,9 @@ fn glyph(d: u32) -> u8
 }
 
 // Puts the digits of n into out from `at` on, and answers the place after them.
-pub fn put_number(n: u32, out: &mut [u8], at: usize) -> usize
-    requires { ⌜ at + length (decimalOf n) ≤ length (now out) ⌝ }
-    ensures { λ r. ⌜ Appended (now (out .entry)) at (decimalOf n) (now (out .exit)) r ⌝ }
+pub fn put_number(n: u64, out: &mut [u8], at: usize) -> usize
+    requires { ⌜ at + length (longDecimalOf n) ≤ length (now out) ⌝ }
+    ensures { λ r. ⌜ Appended (now (out .entry)) at (longDecimalOf n) (now (out .exit)) r ⌝ }
 {
     if n < 10 {
         out[at] = glyph(n);
@@ -87,6 +87,24 @@ pub fn put_number(n: u32, out: &mut [u8], at: usize) -> usize
     let end = put_number(n / 10, out, at);
     out[end] = glyph(n % 10);
     end + 1
+}
+
+// Puts the digits of n and the byte that follows them.
+pub fn put_word(n: u64, after: u8, out: &mut [u8], at: usize) -> usize
+    requires { ⌜ at + length (longDecimalOf n) < length (now out) ⌝ }
+    ensures { λ r. ⌜ Appended (now (out .entry)) at (wordOf n after) (now (out .exit)) r ⌝ }
+{
+    let end = put_number(n, out, at);
+    out[end] = after;
+    end + 1
+}
+
+// A number of 32 bits as one of 64.
+fn long(n: u32) -> u64
+    ensures { λ r. ⌜ r ≡ n ⌝ }
+    ensures { λ r. ⌜ r < 2 ^ 32 ⌝ }
+{
+    n as u64
 }
 
 // What follows a number in a line: a space where more come, else the newline.
@@ -104,11 +122,10 @@ pub fn put_line(numbers: &[u32], out: &mut [u8], at: usize) -> usize
     let mut end = at;
     let mut i: usize = 0;
     while i < numbers.len() {
-        let next = put_number(numbers[i], out, end);
+        let n = long(numbers[i]);
         i += 1;
-        let more = i < numbers.len();
-        out[next] = separator(more);
-        end = next + 1;
+        let after = separator(i < numbers.len());
+        end = put_word(n, after, out, end);
     }
     end
 }
