@@ -39,7 +39,7 @@ fn answer_some(
     out: &mut [u8],
 ) -> Part
     requires { ⌜ from ≤ length (now block) ⌝ }
-    requires { ⌜ length (now numbers) ≡ 348 ⌝ }
+    requires { ⌜ length (now numbers) ≡ 1025 ⌝ }
     requires { ⌜ length (now kept) ≡ 348 ⌝ }
     ensures { λ r. ⌜ r .next ≤ length (now (block .entry)) ⌝ }
 {
@@ -63,7 +63,7 @@ fn answer_block(
     kept: &mut [u32],
     out: &mut [u8],
 ) -> Part
-    requires { ⌜ length (now numbers) ≡ 348 ⌝ }
+    requires { ⌜ length (now numbers) ≡ 1025 ⌝ }
     requires { ⌜ length (now kept) ≡ 348 ⌝ }
     ensures { λ r. ⌜ r .next ≤ length (now (block .entry)) ⌝ }
 {
@@ -87,7 +87,7 @@ fn answer_block(
 // Answers the last line, if it lacks its newline.
 fn finish(t: Held, block: &[u8], numbers: &mut [u32], kept: &mut [u32], out: &mut [u8])
     requires { ⌜ t .used ≤ length (now block) ⌝ }
-    requires { ⌜ length (now numbers) ≡ 348 ⌝ }
+    requires { ⌜ length (now numbers) ≡ 1025 ⌝ }
     requires { ⌜ length (now kept) ≡ 348 ⌝ }
     requires { ⌜ 3828 ≤ length (now out) ⌝ }
 {
@@ -100,7 +100,7 @@ fn finish(t: Held, block: &[u8], numbers: &mut [u32], kept: &mut [u32], out: &mu
 // Reads once, and answers what came.
 fn turn(t: Held, block: &mut [u8], numbers: &mut [u32], kept: &mut [u32], out: &mut [u8]) -> Held
     requires { ⌜ t .used ≤ length (now block) ⌝ }
-    requires { ⌜ length (now numbers) ≡ 348 ⌝ }
+    requires { ⌜ length (now numbers) ≡ 1025 ⌝ }
     requires { ⌜ length (now kept) ≡ 348 ⌝ }
     requires { ⌜ 3828 ≤ length (now out) ⌝ }
     ensures { λ r. ⌜ r .used ≤ length (now (block .exit)) ⌝ }
@@ -132,7 +132,7 @@ fn turn(t: Held, block: &mut [u8], numbers: &mut [u32], kept: &mut [u32], out: &
 // Reads and answers until the input ends. A proved loop has to end, so it counts its turns down
 // from a number that no run uses up.
 fn serve(block: &mut [u8], numbers: &mut [u32], kept: &mut [u32], out: &mut [u8])
-    requires { ⌜ length (now numbers) ≡ 348 ⌝ }
+    requires { ⌜ length (now numbers) ≡ 1025 ⌝ }
     requires { ⌜ length (now kept) ≡ 348 ⌝ }
     requires { ⌜ 3828 ≤ length (now out) ⌝ }
 {
@@ -153,7 +153,7 @@ fn serve(block: &mut [u8], numbers: &mut [u32], kept: &mut [u32], out: &mut [u8]
 
 fn main() {
     let mut block = [0u8; 65536];
-    let mut numbers = [0u32; 348];
+    let mut numbers = [0u32; 1025];
     let mut kept = [0u32; 348];
     let mut out = [0u8; 262144];
     serve(&mut block, &mut numbers, &mut kept, &mut out);

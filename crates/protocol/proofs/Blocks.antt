@@ -123,16 +123,16 @@ module _ {from : ℕ} {was block : List ℕ} {i : ℕ} where
       }
 
 -- what is kept of m bytes
-pub kept-part : (m n : ℕ) (l : List ℕ) → n ≡ min m 3833 → take n l ≡ take 3833 (take m l)
-kept-part m n l e = go (decLe m 3833)
+pub kept-part : (m n : ℕ) (l : List ℕ) → n ≡ min m 11277 → take n l ≡ take 11277 (take m l)
+kept-part m n l e = go (decLe m 11277)
   where
-    go : Dec (m ≤ 3833) → take n l ≡ take 3833 (take m l)
+    go : Dec (m ≤ 11277) → take n l ≡ take 11277 (take m l)
     go (yes h) =
         let k : n ≡ m = omega arith in
-        rw k (sym (take-all 3833 (take m l) (omega (arith, length-take m l))))
+        rw k (sym (take-all 11277 (take m l) (omega (arith, length-take m l))))
     go (no h) =
-        let k : n ≡ 3833 = omega (arith, h) in
-        rw k (sym (take-take 3833 m l (omega (arith, h))))
+        let k : n ≡ 11277 = omega (arith, h) in
+        rw k (sym (take-take 11277 m l (omega (arith, h))))
 
 -- the last line
 pub last-none : (w : Standing) (line out : List ℕ) → length line ≡ 0 → take 0 out ≡ lastSaid w line

@@ -10,7 +10,7 @@ use lib.ListN.{take}
 use borrow.Author.Tests.{le-leb, lt-leb}
 use Rattle.protocol.specs.Text.{text, same}
 use Rattle.protocol.specs.Decimal.{numberOf}
-use Rattle.protocol.specs.Command.{one, areNumbers, table, lookUp}
+use Rattle.protocol.specs.Command.{one, allNumbers, areNumbers, table, lookUp}
 use Rattle.protocol.proofs.Texts.{same-equal}
 use Rattle.protocol.proofs.Decimals.{and-false}
 
@@ -24,7 +24,7 @@ found w s ws t = ap (λ (v : List ℕ). lookUp table v ws) (sym (same-equal w s 
 
 -- No row: the words that take no number are none of these.
 pub no-bare : (w : List ℕ) → same w (text "tick") ≡ false → same w (text "pins") ≡ false → same w (text "state") ≡ false → same w (text "fresh") ≡ false → same w (text "reset") ≡ false → same w (text "forecast") ≡ false → Command.Bad ≡ lookUp table w []
-unfolding lookUp table areNumbers
+unfolding lookUp table areNumbers allNumbers
 no-bare w a b c d e f = simp (a, b, c, d, e, f, cond-same)
 
 -- The words that take one number.
@@ -59,10 +59,10 @@ module _ (a : List ℕ) (n : ℕ) (e : numberOf a ≡ Number.Value n) where
   modem-some h k = simp (e, le-leb _ _ h, le-leb _ _ k)
 
 -- none of those whose number may be large, and the number is no byte
-pub no-large : (w a : List ℕ) (n : ℕ) → numberOf a ≡ Number.Value n → 255 < n → same w (text "ticks") ≡ false → same w (text "level") ≡ false → same w (text "run") ≡ false → Command.Bad ≡ lookUp table w (a ∷ [])
-unfolding lookUp table areNumbers
-no-large w a n e h t l r = simp (e, lt-leb _ _ h, and-false, t, l, r, cond-same)
+pub no-large : (w a : List ℕ) (n : ℕ) → numberOf a ≡ Number.Value n → 255 < n → same w (text "ticks") ≡ false → same w (text "level") ≡ false → same w (text "run") ≡ false → same w (text "replay") ≡ false → Command.Bad ≡ lookUp table w (a ∷ [])
+unfolding lookUp table areNumbers allNumbers
+no-large w a n e h t l r p = simp (e, lt-leb _ _ h, and-false, t, l, r, p, cond-same)
 
-pub no-one : (w a : List ℕ) (n : ℕ) → numberOf a ≡ Number.Value n → same w (text "ticks") ≡ false → same w (text "level") ≡ false → same w (text "run") ≡ false → same w (text "read") ≡ false → same w (text "sin") ≡ false → same w (text "modem") ≡ false → Command.Bad ≡ lookUp table w (a ∷ [])
-unfolding lookUp table areNumbers
-no-one w a n e t l r d s m = simp (e, t, l, r, d, s, m, cond-same)
+pub no-one : (w a : List ℕ) (n : ℕ) → numberOf a ≡ Number.Value n → same w (text "ticks") ≡ false → same w (text "level") ≡ false → same w (text "run") ≡ false → same w (text "read") ≡ false → same w (text "sin") ≡ false → same w (text "modem") ≡ false → same w (text "replay") ≡ false → Command.Bad ≡ lookUp table w (a ∷ [])
+unfolding lookUp table areNumbers allNumbers
+no-one w a n e t l r d s m p = simp (e, t, l, r, d, s, m, p, cond-same)

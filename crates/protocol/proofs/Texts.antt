@@ -3,7 +3,7 @@ use Prim.Native.Nat.{ℕ, suc, _+_, _≤_, _<_}
 use mathlib.Core.Path.{_≡_, sym, refl, ap, _∙_}
 use mathlib.Core.Bool.{Bool, true, false, _&&_}
 use mathlib.Core.List.{List, [], _∷_, _++_, append-assoc}
-use lib.ListN.{length-set, length, getD, take, drop, set, length-append, drop-of-length-le}
+use lib.ListN.{length, getD, take, drop, set, length-append, drop-of-length-le}
 use lib.Seq.{take-all, drop-cons, take-suc-set}
 use lib.Dec.{eqb}
 use native.Mathlib.Numerals.{add-one}
@@ -108,21 +108,6 @@ appended-then {a = a} {at = at} {s = s} {t = t} p q =
 -- the same text in other words
 pub appended-as : {a b : List ℕ} {at end : ℕ} {s t : List ℕ} → s ≡ t → Appended a at s b end → Appended a at t b end
 appended-as e p = rw e at p
-
--- four bytes one after another
-pub appended-four : (from : List ℕ) (at a b c d : ℕ) → at + 4 ≤ length from → Appended from at (a ∷ b ∷ c ∷ d ∷ []) (set (set (set (set from at a) (at + 1) b) (at + 2) c) (at + 3) d) (at + 4)
-appended-four from at a b c d h =
-    let f1 : List ℕ = set from at a in
-    let f2 : List ℕ = set f1 (at + 1) b in
-    let f3 : List ℕ = set f2 (at + 2) c in
-    let e2 : at + 1 + 1 ≡ at + 2 = omega arith in
-    let e3 : at + 2 + 1 ≡ at + 3 = omega arith in
-    let e4 : at + 3 + 1 ≡ at + 4 = omega arith in
-    let p1 = appended-one from at a a (omega arith) refl in
-    let p2 : Appended f1 (at + 1) (b ∷ []) f2 (at + 2) = rw e2 at (appended-one f1 (at + 1) b b (simp length-set (omega arith)) refl) in
-    let p3 : Appended f2 (at + 2) (c ∷ []) f3 (at + 3) = rw e3 at (appended-one f2 (at + 2) c c (simp length-set (omega arith)) refl) in
-    let p4 : Appended f3 (at + 3) (d ∷ []) (set f3 (at + 3) d) (at + 4) = rw e4 at (appended-one f3 (at + 3) d d (simp length-set (omega arith)) refl) in
-    appended-then p1 (appended-then p2 (appended-then p3 p4))
 
 -- what fills the buffer from its start is all of it
 pub appended-whole : {from to : List ℕ} {s : List ℕ} → Appended from 0 s to (0 + length s) → length to ≡ length s → to ≡ s

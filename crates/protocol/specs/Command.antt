@@ -1,9 +1,9 @@
 -- What a line says: the table of the protocol, row by row.
-use Prim.Native.Nat.{ℕ}
+use Prim.Native.Nat.{ℕ, _+_}
 use Prim.Native.String.{String}
 use mathlib.Core.Bool.{Bool, true, false, cond, _&&_}
 use mathlib.Core.List.{List, [], _∷_, map}
-use lib.ListN.{length}
+use lib.ListN.{length, take}
 use lib.Dec.{leb, eqb}
 use Rattle.flag.specs.Flag.{allOf}
 use Rattle.protocol.specs.declared.decimal.Number.{Number}
@@ -45,9 +45,21 @@ abbrev pub valueOf : Number → ℕ
 valueOf (Number.Value n) = n
 valueOf Number.Nothing = 0
 
+-- words that are all numbers
+unfoldable pub allNumbers : List (List ℕ) → Bool
+allNumbers ws = allOf (λ (w : List ℕ). isSome (numberOf w)) ws
+
 -- so many numbers
 unfoldable pub areNumbers : ℕ → List (List ℕ) → Bool
-areNumbers k ws = eqb (length ws) k && allOf (λ (w : List ℕ). isSome (numberOf w)) ws
+areNumbers k ws = eqb (length ws) k && allNumbers ws
+
+-- at most so many numbers
+unfoldable pub fewNumbers : ℕ → List (List ℕ) → Bool
+fewNumbers k ws = leb (length ws) k && allNumbers ws
+
+-- how many they are, where they are at most k: 0 where they are more, or one is no number
+unfoldable pub numbersIn : ℕ → List (List ℕ) → ℕ
+numbersIn k ws = cond (fewNumbers k ws) (length ws) 0
 
 -- the numbers that words spell
 unfoldable pub valuesOf : List (List ℕ) → List ℕ
@@ -55,6 +67,11 @@ valuesOf ws = map (λ (w : List ℕ). valueOf (numberOf w)) ws
 
 abbrev pub many : ℕ → Command → List (List ℕ) → Command
 many k c ws = cond (areNumbers k ws) c Command.Bad
+
+-- a number up to `most`, and at most k numbers after it
+abbrev pub listed : ℕ → ℕ → (ℕ → ℕ → Command) → List (List ℕ) → Command
+listed most k f [] = Command.Bad
+listed most k f (w ∷ ws) = ranged 0 most (λ n. cond (fewNumbers k ws) (f n (length ws)) Command.Bad) (numberOf w)
 
 -- a row of the table: the first word of a line, and what the others make
 pub record Row : Type 0 where
@@ -80,6 +97,7 @@ table =
     ∷ row "forecast" (bare Command.Forecast)
     ∷ row "level" (one 0 4294967295 Command.Level)
     ∷ row "run" (one 0 4294967295 Command.Run)
+    ∷ row "replay" (listed 65535 1024 Command.Replay)
     ∷ []
 
 -- the row of a word
@@ -101,6 +119,19 @@ abbrev pub rest : List (List ℕ) → List (List ℕ)
 rest [] = []
 rest (w ∷ ws) = ws
 
--- the numbers of a line, after its first word
+-- how many of a line's numbers stand beside its command: the state of `load`, the version and the records of `replay`
+abbrev pub beside : Command → ℕ
+beside Command.Fresh = 0
+beside Command.Load = 348
+beside Command.State = 0
+beside (Command.Step c) = 0
+beside Command.Pins = 0
+beside Command.Forecast = 0
+beside (Command.Level t) = 0
+beside (Command.Run n) = 0
+beside (Command.Replay v n) = n + 1
+beside Command.Bad = 0
+
+-- those numbers
 unfoldable pub operandsOf : List ℕ → List ℕ
-operandsOf line = valuesOf (rest (words line))
+operandsOf line = take (beside (commandOf line)) (valuesOf (rest (words line)))

@@ -21,7 +21,7 @@ standing s kept = record { session = s; kept = kept }
 
 -- what a line, without its newline, is answered
 unfoldable pub lineSaid : Standing → List ℕ → List ℕ
-lineSaid w line = saidOf (w .session) (w .kept) (commandOf line)
+lineSaid w line = saidOf (w .session) (w .kept) (operandsOf line) (commandOf line)
 
 -- where the run stands after it
 unfoldable pub lineNext : Standing → List ℕ → Standing

@@ -2,6 +2,7 @@
 use Prim.Native.Nat.{ℕ}
 use mathlib.Core.Bool.{true, false, cond}
 use mathlib.Core.List.{List, [], _∷_}
+use lib.ListN.{drop}
 use Rattle.device.specs.declared.Outputs.{Outputs}
 use Rattle.device.specs.declared.Answer.{Answer}
 use Rattle.device.specs.declared.Looked.{Looked}
@@ -12,12 +13,15 @@ use Rattle.device.specs.declared.State.{State}
 use Rattle.device.specs.State.{freshOf, withRegisters}
 use Rattle.device.specs.Calls.{resetOf, readOf, writeOf, sinOf, modemOf, tickOf, ticksAnswer, pinsOf}
 use Rattle.device.specs.Forecast.{forecastOf, levelOf, runOf}
+use Rattle.capture.specs.declared.Replayed.{Replayed}
+use Rattle.capture.specs.Replay.{replayOf}
 use Rattle.protocol.specs.declared.command.Call.{Call}
 use Rattle.protocol.specs.declared.command.Command.{Command}
 use Rattle.protocol.specs.declared.session.Session.{Session}
 use Rattle.protocol.specs.Text.{text}
 use Rattle.protocol.specs.Decimal.{lineOf}
 use Rattle.protocol.specs.Numbers.{numbersOf, fits, stateOf}
+use Rattle.protocol.specs.Outcome.{outcomeLine}
 
 -- The current state.
 
@@ -75,19 +79,24 @@ levelNumbers l = l .number ∷ l .level ∷ []
 abbrev pub runNumbers : Ran → List ℕ
 runNumbers r = r .number ∷ r .used ∷ []
 
--- What a command writes. The numbers kept are those loaded last.
-unfoldable pub saidOf : Session → List ℕ → Command → List ℕ
-saidOf s kept Command.Fresh = lineOf (0 ∷ [])
-saidOf s kept Command.Load = lineOf (0 ∷ [])
-saidOf s kept Command.State = lineOf (currentNumbers s kept)
-saidOf s kept (Command.Step c) = lineOf (stepNumbers (stepOf (s .state) c))
-saidOf s kept Command.Pins = lineOf (lookNumbers (pinsOf (s .state)))
-saidOf s kept Command.Forecast = lineOf (forecastNumbers (forecastOf (s .state)))
-saidOf s kept (Command.Level t) = lineOf (levelNumbers (levelOf (s .state) t))
-saidOf s kept (Command.Run n) = lineOf (runNumbers (runOf (s .state) n))
-saidOf s kept Command.Bad = text "bad\n"
+-- replay of a line's records, which follow the version in its numbers ns
+abbrev pub replayedOf : State → ℕ → List ℕ → Replayed
+replayedOf s version ns = replayOf version s (drop 1 ns)
 
--- The current state after a command. The numbers ns are the line's.
+-- What a command writes. The numbers kept are those loaded last; the numbers ns are the line's.
+unfoldable pub saidOf : Session → List ℕ → List ℕ → Command → List ℕ
+saidOf s kept ns Command.Fresh = lineOf (0 ∷ [])
+saidOf s kept ns Command.Load = lineOf (0 ∷ [])
+saidOf s kept ns Command.State = lineOf (currentNumbers s kept)
+saidOf s kept ns (Command.Step c) = lineOf (stepNumbers (stepOf (s .state) c))
+saidOf s kept ns Command.Pins = lineOf (lookNumbers (pinsOf (s .state)))
+saidOf s kept ns Command.Forecast = lineOf (forecastNumbers (forecastOf (s .state)))
+saidOf s kept ns (Command.Level t) = lineOf (levelNumbers (levelOf (s .state) t))
+saidOf s kept ns (Command.Run n) = lineOf (runNumbers (runOf (s .state) n))
+saidOf s kept ns (Command.Replay v n) = outcomeLine (replayedOf (s .state) v ns .outcome)
+saidOf s kept ns Command.Bad = text "bad\n"
+
+-- The current state after a command.
 unfoldable pub nextOf : Session → List ℕ → Command → Session
 nextOf s ns Command.Fresh = held freshOf
 nextOf s ns Command.Load = loadedOf ns
@@ -97,6 +106,7 @@ nextOf s ns Command.Pins = s
 nextOf s ns Command.Forecast = s
 nextOf s ns (Command.Level t) = s
 nextOf s ns (Command.Run n) = moved s (runOf (s .state) n .state)
+nextOf s ns (Command.Replay v n) = moved s (replayedOf (s .state) v ns .state)
 nextOf s ns Command.Bad = s
 
 -- The numbers loaded last, after a command.
@@ -109,4 +119,5 @@ keptOf kept ns Command.Pins = kept
 keptOf kept ns Command.Forecast = kept
 keptOf kept ns (Command.Level t) = kept
 keptOf kept ns (Command.Run n) = kept
+keptOf kept ns (Command.Replay v n) = kept
 keptOf kept ns Command.Bad = kept

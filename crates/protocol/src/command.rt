@@ -1,16 +1,18 @@
 // What a line says.
+use crate::PLACES;
 use crate::decimal;
 use crate::decimal::Number;
 use crate::words;
 ghost use mathlib.Core.Path.{_≡_};
-ghost use mathlib.Core.Bool.{true};
+ghost use mathlib.Core.Bool.{false};
 ghost use mathlib.Core.List.{List, [], _∷_};
-ghost use Prim.Native.Nat.{ℕ};
-ghost use lib.ListN.{length};
+ghost use Prim.Native.Nat.{ℕ, _≤_};
+ghost use lib.ListN.{length, take};
 ghost use Rattle.protocol.specs.Text.{text};
+ghost use Rattle.protocol.specs.Text.{same as «same-text»};
 ghost use Rattle.protocol.specs.Decimal.{numberOf};
 ghost use Rattle.protocol.specs.Words.{words as «words-of»};
-ghost use Rattle.protocol.specs.Command.{areNumbers, valuesOf, table, lookUp, commandOf, operandsOf};
+ghost use Rattle.protocol.specs.Command.{numbersIn, valuesOf, table, lookUp, commandOf, beside, operandsOf};
 
 // A call that moves the current state by a step.
 pub enum Call {
@@ -23,7 +25,8 @@ pub enum Call {
     Ticks(u32),
 }
 
-// A line's command. The numbers of `load` stand beside it.
+// A line's command. The numbers of `load` stand beside it, and so do those of `replay`, whose
+// version and number of records it has.
 pub enum Command {
     Fresh,
     Load,
@@ -33,12 +36,14 @@ pub enum Command {
     Forecast,
     Level(u32),
     Run(u32),
+    Replay(u32, usize),
     Bad,
 }
 
 // The command of a word with no number after it.
 fn bare(word: &[u8]) -> Command
     ensures { λ r. ⌜ r ≡ lookUp table (now (word .entry)) [] ⌝ }
+    ensures { λ r. ⌜ beside r ≡ 0 ⌝ }
 {
     if words::same(word, b"tick") {
         return Command::Step(Call::Tick);
@@ -61,9 +66,11 @@ fn bare(word: &[u8]) -> Command
     Command::Bad
 }
 
-// The command of a word and a number, which another word spells.
+// The command of a word and a number, which another word spells; `replay` is not looked for.
 fn with_number(word: &[u8], n: u32) -> Command
+    requires { ⌜ «same-text» (now word) (text "replay") ≡ false ⌝ }
     ensures { λ r. ⌜ ((a : List ℕ) → numberOf a ≡ Number.Value n → r ≡ lookUp table (now (word .entry)) (a ∷ [])) ⌝ }
+    ensures { λ r. ⌜ beside r ≡ 0 ⌝ }
 {
     if words::same(word, b"ticks") {
         if n == 0 {
@@ -96,6 +103,7 @@ fn with_number(word: &[u8], n: u32) -> Command
 // The command `write` with these numbers.
 fn write(numbers: &[u8]) -> Command
     ensures { λ r. ⌜ r ≡ lookUp table (text "write") («words-of» (now (numbers .entry))) ⌝ }
+    ensures { λ r. ⌜ beside r ≡ 0 ⌝ }
 {
     let end = words::word_end(numbers, 0);
     if end == numbers.len() {
@@ -117,33 +125,67 @@ fn write(numbers: &[u8]) -> Command
     Command::Step(Call::Write(a as u8, b as u8))
 }
 
-// Reads a line of numbers into `to`, which they have to fill, and answers whether they do.
-fn read_numbers(numbers: &[u8], to: &mut [u32]) -> bool
-    ensures { λ r. ⌜ r ≡ areNumbers (length (now (to .entry))) («words-of» (now (numbers .entry))) ⌝ }
-    ensures { λ r. ⌜ (r ≡ true → now (to .exit) ≡ valuesOf («words-of» (now (numbers .entry)))) ⌝ }
+// Reads the numbers of a line into `to`, and answers how many they are: 0 where one is no number, or
+// where they are more than it has places.
+fn read_numbers(numbers: &[u8], to: &mut [u32]) -> usize
+    ensures { λ r. ⌜ r ≡ numbersIn (length (now (to .entry))) («words-of» (now (numbers .entry))) ⌝ }
+    ensures { λ r. ⌜ r ≤ length (now (to .entry)) ⌝ }
+    ensures { λ r. ⌜ take r (now (to .exit)) ≡ take r (valuesOf («words-of» (now (numbers .entry)))) ⌝ }
 {
     let mut at: usize = 0;
     let mut i: usize = 0;
     while i < to.len() {
         let end = words::word_end(numbers, at);
         let Number::Value(n) = decimal::number_of(&numbers[at..end]) else {
-            return false;
+            return 0;
         };
         to[i] = n;
         i += 1;
         if end == numbers.len() {
-            return i == to.len();
+            return i;
         }
         at = end + 1;
     }
-    false
+    0
 }
 
-// The command of a line, which has no newline. Where it is `load`, its numbers are in `to`.
+// The command `load` with these numbers, which are then in `to`.
+fn load(numbers: &[u8], to: &mut [u32]) -> Command
+    requires { ⌜ length (now to) ≡ 1025 ⌝ }
+    ensures { λ r. ⌜ r ≡ lookUp table (text "load") («words-of» (now (numbers .entry))) ⌝ }
+    ensures { λ r. ⌜ beside r ≤ 1025 ⌝ }
+    ensures { λ r. ⌜ take (beside r) (now (to .exit)) ≡ take (beside r) (valuesOf («words-of» (now (numbers .entry)))) ⌝ }
+{
+    if read_numbers(numbers, to) == PLACES {
+        return Command::Load;
+    }
+    Command::Bad
+}
+
+// The command `replay` with these numbers, which are then in `to`.
+fn replay(numbers: &[u8], to: &mut [u32]) -> Command
+    requires { ⌜ length (now to) ≡ 1025 ⌝ }
+    ensures { λ r. ⌜ r ≡ lookUp table (text "replay") («words-of» (now (numbers .entry))) ⌝ }
+    ensures { λ r. ⌜ beside r ≤ 1025 ⌝ }
+    ensures { λ r. ⌜ take (beside r) (now (to .exit)) ≡ take (beside r) (valuesOf («words-of» (now (numbers .entry)))) ⌝ }
+{
+    let n = read_numbers(numbers, to);
+    if n == 0 {
+        return Command::Bad;
+    }
+    let version = to[0];
+    if 65535 < version {
+        return Command::Bad;
+    }
+    Command::Replay(version, n - 1)
+}
+
+// The command of a line, which has no newline. The numbers that stand beside it are in `to`.
 pub fn command_of(line: &[u8], to: &mut [u32]) -> Command
-    requires { ⌜ length (now to) ≡ 348 ⌝ }
+    requires { ⌜ length (now to) ≡ 1025 ⌝ }
     ensures { λ r. ⌜ r ≡ commandOf (now (line .entry)) ⌝ }
-    ensures { λ r. ⌜ (r ≡ Command.Load → now (to .exit) ≡ operandsOf (now (line .entry))) ⌝ }
+    ensures { λ r. ⌜ beside r ≤ 1025 ⌝ }
+    ensures { λ r. ⌜ take (beside r) (now (to .exit)) ≡ operandsOf (now (line .entry)) ⌝ }
 {
     let end = words::word_end(line, 0);
     let word = &line[..end];
@@ -156,10 +198,10 @@ pub fn command_of(line: &[u8], to: &mut [u32]) -> Command
         return write(numbers);
     }
     if words::same(word, b"load") {
-        if read_numbers(numbers, to) {
-            return Command::Load;
-        }
-        return Command::Bad;
+        return load(numbers, to);
+    }
+    if words::same(word, b"replay") {
+        return replay(numbers, to);
     }
     match decimal::number_of(numbers) {
         Number::Value(n) => with_number(word, n),

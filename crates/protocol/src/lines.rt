@@ -11,7 +11,7 @@ ghost use Rattle.protocol.specs.Lines.{standing, lastSaid, Answered};
 const NEWLINE: u8 = b'\n';
 
 // The most that is kept of a line that has not ended: one byte more than any that is no `bad`.
-const KEPT: usize = 3833;
+const KEPT: usize = 11277;
 
 // Where the answering of a block stands: the current state, the place in the block after the last
 // line answered, the end of the answers, and whether it stopped for want of room.
@@ -33,7 +33,7 @@ pub fn answer_lines(
     out: &mut [u8],
 ) -> Progress
     requires { ⌜ from ≤ length (now block) ⌝ }
-    requires { ⌜ length (now numbers) ≡ 348 ⌝ }
+    requires { ⌜ length (now numbers) ≡ 1025 ⌝ }
     requires { ⌜ length (now kept) ≡ 348 ⌝ }
     ensures { λ r. ⌜ Answered (standing s (now (kept .entry))) (now (block .entry)) from (standing (r .session) (now (kept .exit))) (r .next) (now (out .exit)) (r .end) (r .full) ⌝ }
 {
@@ -65,7 +65,7 @@ pub fn answer_lines(
 
 // How much is kept of so many bytes.
 fn at_most_kept(n: usize) -> usize
-    ensures { λ r. ⌜ r ≡ min n 3833 ⌝ }
+    ensures { λ r. ⌜ r ≡ min n 11277 ⌝ }
 {
     if n < KEPT { n } else { KEPT }
 }
@@ -75,8 +75,8 @@ fn at_most_kept(n: usize) -> usize
 pub fn keep(block: &mut [u8], from: usize, to: usize) -> usize
     requires { ⌜ from ≤ to ⌝ }
     requires { ⌜ to ≤ length (now block) ⌝ }
-    ensures { λ r. ⌜ take r (now (block .exit)) ≡ take 3833 (take (to - from) (drop from (now (block .entry)))) ⌝ }
-    ensures { λ r. ⌜ r ≡ min (to - from) 3833 ⌝ }
+    ensures { λ r. ⌜ take r (now (block .exit)) ≡ take 11277 (take (to - from) (drop from (now (block .entry)))) ⌝ }
+    ensures { λ r. ⌜ r ≡ min (to - from) 11277 ⌝ }
 {
     let n = at_most_kept(to - from);
     let mut i: usize = 0;
@@ -96,7 +96,7 @@ pub fn answer_last(
     kept: &mut [u32],
     out: &mut [u8],
 ) -> usize
-    requires { ⌜ length (now numbers) ≡ 348 ⌝ }
+    requires { ⌜ length (now numbers) ≡ 1025 ⌝ }
     requires { ⌜ length (now kept) ≡ 348 ⌝ }
     requires { ⌜ 3828 ≤ length (now out) ⌝ }
     ensures { λ r. ⌜ take r (now (out .exit)) ≡ lastSaid (standing s (now (kept .entry))) (now (line .entry)) ⌝ }

@@ -1,10 +1,13 @@
 // The current state, and what a command makes of it and writes.
+use crate::PLACES;
+use crate::buffer;
 use crate::command;
 use crate::command::Call;
 use crate::command::Command;
 use crate::decimal;
 use crate::numbers;
 use crate::numbers::wide;
+use crate::outcome;
 use device::Answer;
 use device::Looked;
 use device::Registers;
@@ -12,13 +15,16 @@ use device::State;
 ghost use mathlib.Core.Path.{_≡_};
 ghost use mathlib.Core.List.{List, [], _∷_};
 ghost use Prim.Native.Nat.{_+_, _≤_};
-ghost use lib.ListN.{length};
+ghost use lib.ListN.{length, take};
 ghost use Rattle.device.specs.State.{freshOf};
 ghost use Rattle.device.specs.Calls.{pinsOf};
 ghost use Rattle.device.specs.Forecast.{forecastOf, levelOf, runOf};
-ghost use Rattle.protocol.specs.Text.{text, Appended};
+ghost use Rattle.capture.specs.Replay.{replayOf};
+ghost use Rattle.protocol.specs.Text.{Appended};
 ghost use Rattle.protocol.specs.Decimal.{lineOf};
+ghost use Rattle.protocol.specs.Command.{beside};
 ghost use Rattle.protocol.specs.Lines.{standing, lineSaid, lineNext};
+ghost use Rattle.protocol.specs.Outcome.{outcomeLine};
 ghost use Rattle.protocol.specs.Session.{held, unfitState, loadedOf, currentNumbers, stepOf, stepNumbers, lookNumbers, forecastNumbers, levelNumbers, runNumbers, moved, saidOf, nextOf, keptOf};
 
 // The current state. Where loaded numbers do not fit the model's types, it is one that every call
@@ -131,18 +137,6 @@ fn put_done(out: &mut [u8], at: usize) -> usize
     decimal::put_line(&n, out, at)
 }
 
-// Puts the answer `bad`.
-fn put_bad(out: &mut [u8], at: usize) -> usize
-    requires { ⌜ at + 4 ≤ length (now out) ⌝ }
-    ensures { λ r. ⌜ Appended (now (out .entry)) at (text "bad\n") (now (out .exit)) r ⌝ }
-{
-    out[at] = b'b';
-    out[at + 1] = b'a';
-    out[at + 2] = b'd';
-    out[at + 3] = b'\n';
-    at + 4
-}
-
 // Puts a number answered and one result.
 fn put_pair(number: u8, result: u32, out: &mut [u8], at: usize) -> usize
     requires { ⌜ at + 22 ≤ length (now out) ⌝ }
@@ -206,6 +200,26 @@ fn ran(s: Session, n: u32, out: &mut [u8], at: usize) -> Said
     }
 }
 
+// Replays records of a version, and puts the answer.
+fn replayed(s: Session, version: u32, records: &[u32], out: &mut [u8], at: usize) -> Said
+    requires { ⌜ at + 40 ≤ length (now out) ⌝ }
+    ensures { λ r. ⌜ r .session ≡ moved s (replayOf version (s .state) (now (records .entry)) .state) ⌝ }
+    ensures { λ r. ⌜ Appended (now (out .entry)) at (outcomeLine (replayOf version (s .state) (now (records .entry)) .outcome)) (now (out .exit)) (r .end) ⌝ }
+{
+    let t = s.state;
+    let a = capture::replay(t, version, records);
+    let o = a.outcome;
+    let end = outcome::put_outcome(o, out, at);
+    let state = a.state;
+    Said {
+        session: Session {
+            state,
+            fits: s.fits,
+        },
+        end,
+    }
+}
+
 // Puts the pins as they are.
 fn put_pins(s: State, out: &mut [u8], at: usize) -> usize
     requires { ⌜ at + 77 ≤ length (now out) ⌝ }
@@ -250,8 +264,8 @@ fn load(numbers: &[u32], kept: &mut [u32], out: &mut [u8], at: usize) -> Said
     }
 }
 
-// Makes a command on the current state, and puts its answer into out from `at` on. The numbers of
-// a `load` are in `numbers`; `kept` has those loaded last.
+// Makes a command on the current state, and puts its answer into out from `at` on. The numbers that
+// stand beside it begin `numbers`; `kept` has those loaded last.
 pub fn answer(
     s: Session,
     c: Command,
@@ -260,12 +274,12 @@ pub fn answer(
     out: &mut [u8],
     at: usize,
 ) -> Said
-    requires { ⌜ length (now numbers) ≡ 348 ⌝ }
+    requires { ⌜ beside c ≤ length (now numbers) ⌝ }
     requires { ⌜ length (now kept) ≡ 348 ⌝ }
     requires { ⌜ at + 3828 ≤ length (now out) ⌝ }
-    ensures { λ r. ⌜ r .session ≡ nextOf s (now (numbers .entry)) c ⌝ }
-    ensures { λ _. ⌜ now (kept .exit) ≡ keptOf (now (kept .entry)) (now (numbers .entry)) c ⌝ }
-    ensures { λ r. ⌜ Appended (now (out .entry)) at (saidOf s (now (kept .entry)) c) (now (out .exit)) (r .end) ⌝ }
+    ensures { λ r. ⌜ r .session ≡ nextOf s (take (beside c) (now (numbers .entry))) c ⌝ }
+    ensures { λ _. ⌜ now (kept .exit) ≡ keptOf (now (kept .entry)) (take (beside c) (now (numbers .entry))) c ⌝ }
+    ensures { λ r. ⌜ Appended (now (out .entry)) at (saidOf s (now (kept .entry)) (take (beside c) (now (numbers .entry))) c) (now (out .exit)) (r .end) ⌝ }
 {
     let t = s.state;
     match c {
@@ -274,7 +288,7 @@ pub fn answer(
             session: start(),
             end: put_done(out, at),
         },
-        Command::Load => load(numbers, kept, out, at),
+        Command::Load => load(&numbers[..PLACES], kept, out, at),
         Command::State => Said {
             session: s,
             end: put_current(s, kept, out, at),
@@ -292,9 +306,13 @@ pub fn answer(
             end: put_level(t, n, out, at),
         },
         Command::Run(n) => ran(s, n, out, at),
+        Command::Replay(version, n) => {
+            let end = n + 1;
+            replayed(s, version, &numbers[1..end], out, at)
+        }
         Command::Bad => Said {
             session: s,
-            end: put_bad(out, at),
+            end: buffer::put(b"bad\n", out, at),
         },
     }
 }
@@ -308,7 +326,7 @@ pub fn answer_line(
     out: &mut [u8],
     at: usize,
 ) -> Said
-    requires { ⌜ length (now numbers) ≡ 348 ⌝ }
+    requires { ⌜ length (now numbers) ≡ 1025 ⌝ }
     requires { ⌜ length (now kept) ≡ 348 ⌝ }
     requires { ⌜ at + 3828 ≤ length (now out) ⌝ }
     ensures { λ r. ⌜ standing (r .session) (now (kept .exit)) ≡ lineNext (standing s (now (kept .entry))) (now (line .entry)) ⌝ }

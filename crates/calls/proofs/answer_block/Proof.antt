@@ -7,7 +7,7 @@ use Rattle.calls.proofs.answer_block.Statement.{statement}
 use Rattle.calls.proofs.answer_block.Tie as tie
 
 abbrev Inv-loop : tie.InvT-loop
-Inv-loop block numbers₀ kept₀ out₀ p₀ turns₀ numbers kept out p turns = (length numbers ≡ 348) × ((length kept ≡ 348) × ((length out ≡ length out₀) × (p .next ≤ length block)))
+Inv-loop block numbers₀ kept₀ out₀ p₀ turns₀ numbers kept out p turns = (length numbers ≡ 1025) × ((length kept ≡ 348) × ((length out ≡ length out₀) × (p .next ≤ length block)))
 
 abbrev μ-loop : tie.MeasureT-loop
 μ-loop block numbers₀ kept₀ out₀ p₀ turns₀ numbers kept out p turns = turns

@@ -1,13 +1,21 @@
 -- Each way out has the row of the first word, and the words that follow it.
-use Rattle.protocol.specs.declared.command.Command.{Command}
 use lib.Seq.{length-take-le}
-use Rattle.protocol.proofs.Reading.{line-whole, line-operands, line-write, line-load, line-number, line-none, line-no-load, line-bare-no-load, not-load, write-not-load, bad-not-load}
-use mathlib.Core.Path.{sym, ap, _∙_}
-use mathlib.Core.Bool.{Bool, cond}
+use Rattle.protocol.proofs.Reading.{line-whole, line-operands, line-row, line-number, line-none, no-operands}
+use Prim.Native.Nat.{_-_}
+use mathlib.Core.Path.{refl, sym, _∙_}
+use mathlib.Core.List.{[]}
 use native.Mathlib.Omega.{arith}
 use borrow.Author.Needs.{needs}
 use Rattle.protocol.proofs.command.command_of.Statement.{statement}
 use Rattle.protocol.proofs.command.command_of.Tie as tie
+use Rattle.protocol.proofs.command.bare.Reads as bare-reads
+use Rattle.protocol.proofs.command.load.Reads as load-reads
+use Rattle.protocol.proofs.command.replay.Reads as replay-reads
+use Rattle.protocol.proofs.command.with_number.Reads as with-number-reads
+use Rattle.protocol.proofs.command.write.Reads as write-reads
+use Rattle.protocol.proofs.decimal.number_of.Reads as number-of-reads
+use Rattle.protocol.proofs.words.same.Reads as same-reads
+use Rattle.protocol.proofs.words.word_end.Reads as word-end-reads
 
 word-end-requires : tie.Need-word-end-requires
 word-end-requires c κs = search needs
@@ -20,8 +28,8 @@ bare-requires c κs = search needs
 
 returns : tie.Need-returns
 returns c =
-    let e = c .bare .ensures ∙ line-whole _ (c .before .before .before .word-end .result) (c .before .before .before .word-end .ensures .0) (c .before .if1 .taken) in
-    (e, λ h. absurd (not-load _ _ e (line-bare-no-load _ (c .before .before .before .word-end .result) (c .before .before .before .word-end .ensures .0) (c .before .if1 .taken)) h))
+    let e = c .bare .ensures .0 ∙ line-whole _ (c .before .before .before .word-end .result) (c .before .before .before .word-end .ensures .0) (c .before .if1 .taken) in
+    (e, (omega (arith, c .bare .ensures .1), no-operands _ _ _ e (c .bare .ensures .1)))
 
 add-next : tie.Need-add-next
 add-next c = search needs
@@ -46,9 +54,8 @@ write-requires c κs = search needs
 
 returns-2 : tie.Need-returns-2
 returns-2 c =
-    let t = sym (c .before .before .same .ensures) ∙ c .before .if2 .taken in
-    let e = line-write _ (c .before .before .before .before .before .before .before .word-end .result) (c .before .before .before .before .before .before .before .word-end .ensures .0) (omega arith) _ t (c .write .ensures) in
-    (e, λ h. absurd (not-load _ _ e (line-no-load _ (c .before .before .before .before .before .before .before .word-end .result) (c .before .before .before .before .before .before .before .word-end .ensures .0) (omega arith) (write-not-load _ t)) h))
+    let e = line-row _ (c .before .before .before .before .before .before .before .word-end .result) (c .before .before .before .before .before .before .before .word-end .ensures .0) (omega arith) _ _ (sym (c .before .before .same .ensures) ∙ c .before .if2 .taken) (c .write .ensures .0) in
+    (e, (omega (arith, c .write .ensures .1), no-operands _ _ _ e (c .write .ensures .1)))
 
 slice-aggregate-same-2 : tie.Need-slice-aggregate-same-2
 slice-aggregate-same-2 c = search needs
@@ -56,23 +63,33 @@ slice-aggregate-same-2 c = search needs
 same-requires-2 : tie.Need-same-requires-2
 same-requires-2 c κs = search needs
 
-read-numbers-requires : tie.Need-read-numbers-requires
-read-numbers-requires c κs = search needs
+load-requires : tie.Need-load-requires
+load-requires c κs = search needs
 
 same-length : tie.Need-same-length
 same-length c = search needs
 
 returns-3 : tie.Need-returns-3
 returns-3 c =
-    (ap (λ (t : Bool). cond t Command.Load Command.Bad) (sym (c .if4 .taken)) ∙ (line-load _ (c .before .before .before .before .before .before .before .before .before .before .before .before .before .before .word-end .result) (c .before .before .before .before .before .before .before .before .before .before .before .before .before .before .word-end .ensures .0) (omega arith) _ (c .before .before .before .read-numbers .result) (c .before .before .before .before .before .before .before .before .before .before .before .before .before .before .before .before .before .pre) (sym (c .before .before .before .before .before .before .same2 .ensures) ∙ c .before .before .before .before .before .if3 .taken) (c .before .before .before .read-numbers .ensures .0)), λ h. c .before .before .before .read-numbers .ensures .1 (c .if4 .taken) ∙ line-operands _ (c .before .before .before .before .before .before .before .before .before .before .before .before .before .before .word-end .result) (c .before .before .before .before .before .before .before .before .before .before .before .before .before .before .word-end .ensures .0) (omega arith))
+    let e = line-row _ (c .before .before .before .before .before .before .before .before .before .before .before .before .before .word-end .result) (c .before .before .before .before .before .before .before .before .before .before .before .before .before .word-end .ensures .0) (omega arith) _ _ (sym (c .before .before .before .before .before .same2 .ensures) ∙ c .before .before .before .before .if3 .taken) (c .before .before .load .ensures .0) in
+    (e, (c .before .before .load .ensures .1 .0, line-operands _ (c .before .before .before .before .before .before .before .before .before .before .before .before .before .word-end .result) (c .before .before .before .before .before .before .before .before .before .before .before .before .before .word-end .ensures .0) (omega arith) _ _ e (c .before .before .load .ensures .1 .1)))
+
+slice-aggregate-same-3 : tie.Need-slice-aggregate-same-3
+slice-aggregate-same-3 c = search needs
+
+same-requires-3 : tie.Need-same-requires-3
+same-requires-3 c κs = search needs
+
+replay-requires : tie.Need-replay-requires
+replay-requires c κs = search needs
 
 same-length-2 : tie.Need-same-length-2
 same-length-2 c = search needs
 
 returns-4 : tie.Need-returns-4
 returns-4 c =
-    let e = ap (λ (t : Bool). cond t Command.Load Command.Bad) (sym (c .if4 .left)) ∙ (line-load _ (c .before .before .before .before .before .before .before .before .before .before .before .before .before .before .word-end .result) (c .before .before .before .before .before .before .before .before .before .before .before .before .before .before .word-end .ensures .0) (omega arith) _ (c .before .before .before .read-numbers .result) (c .before .before .before .before .before .before .before .before .before .before .before .before .before .before .before .before .before .pre) (sym (c .before .before .before .before .before .before .same2 .ensures) ∙ c .before .before .before .before .before .if3 .taken) (c .before .before .before .read-numbers .ensures .0)) in
-    (e, λ h. absurd (bad-not-load h))
+    let e = line-row _ (c .before .before .before .before .before .before .before .before .before .before .before .before .before .before .before .before .word-end .result) (c .before .before .before .before .before .before .before .before .before .before .before .before .before .before .before .before .word-end .ensures .0) (omega arith) _ _ (sym (c .before .before .before .before .before .same3 .ensures) ∙ c .before .before .before .before .if4 .taken) (c .before .before .replay .ensures .0) in
+    (e, (c .before .before .replay .ensures .1 .0, line-operands _ (c .before .before .before .before .before .before .before .before .before .before .before .before .before .before .before .before .word-end .result) (c .before .before .before .before .before .before .before .before .before .before .before .before .before .before .before .before .word-end .ensures .0) (omega arith) _ _ e (c .before .before .replay .ensures .1 .1)))
 
 number-of-requires : tie.Need-number-of-requires
 number-of-requires c κs = search needs
@@ -81,19 +98,20 @@ enum-known-n : tie.Need-enum-known-n
 enum-known-n c = search needs
 
 with-number-requires : tie.Need-with-number-requires
-with-number-requires c κs = search needs
+with-number-requires c κs = sym (c .before .before .before .before .before .same3 .ensures) ∙ c .before .before .before .before .if4 .left
 
 enum-told : tie.Need-enum-told
 enum-told c = search needs
 
 returns-5 : tie.Need-returns-5
 returns-5 c =
-    let e = line-number _ (c .before .before .before .before .before .before .before .before .before .before .before .before .before .before .word-end .result) (c .before .before .before .before .before .before .before .before .before .before .before .before .before .before .word-end .ensures .0) (omega arith) _ (c .before .before .n .given .0 .0) (sym (c .before .before .before .before .number-of .ensures) ∙ c .before .before .n .given .1) (c .with-number .ensures) in
-    (e, λ h. absurd (not-load _ _ e (line-no-load _ (c .before .before .before .before .before .before .before .before .before .before .before .before .before .before .word-end .result) (c .before .before .before .before .before .before .before .before .before .before .before .before .before .before .word-end .ensures .0) (omega arith) (sym (c .before .before .before .before .before .before .same2 .ensures) ∙ c .before .before .before .before .before .if3 .left)) h))
+    let e = line-number _ (c .before .before .before .before .before .before .before .before .before .before .before .before .before .before .before .before .before .word-end .result) (c .before .before .before .before .before .before .before .before .before .before .before .before .before .before .before .before .before .word-end .ensures .0) (omega arith) _ (c .before .before .n .given .0 .0) (sym (c .before .before .before .before .number-of .ensures) ∙ c .before .before .n .given .1) (c .with-number .ensures .0) in
+    (e, (omega (arith, c .with-number .ensures .1), no-operands _ _ _ e (c .with-number .ensures .1)))
 
 returns-6 : tie.Need-returns-6
 returns-6 c =
-    (line-none _ (c .before .before .before .before .before .before .before .before .before .before .before .before .word-end .result) (c .before .before .before .before .before .before .before .before .before .before .before .before .word-end .ensures .0) (omega arith) (sym (c .before .before .number-of .ensures) ∙ c .enum-told .given .1) (sym (c .before .before .before .before .before .before .before .same .ensures) ∙ c .before .before .before .before .before .before .if2 .left) (sym (c .before .before .before .before .same2 .ensures) ∙ c .before .before .before .if3 .left), λ h. absurd (bad-not-load h))
+    let e = line-none _ (c .before .before .before .before .before .before .before .before .before .before .before .before .before .before .before .word-end .result) (c .before .before .before .before .before .before .before .before .before .before .before .before .before .before .before .word-end .ensures .0) (omega arith) (sym (c .before .before .number-of .ensures) ∙ c .enum-told .given .1) (sym (c .before .before .before .before .before .before .before .before .before .before .same .ensures) ∙ c .before .before .before .before .before .before .before .before .before .if2 .left) (sym (c .before .before .before .before .before .before .before .same2 .ensures) ∙ c .before .before .before .before .before .before .if3 .left) (sym (c .before .before .before .before .same3 .ensures) ∙ c .before .before .before .if4 .left) in
+    (e, (omega arith, no-operands _ [] _ e refl))
 
 pub command-of-spec : {M : Type 1} → statement M
 command-of-spec =
@@ -113,9 +131,12 @@ command-of-spec =
     returns-2
     slice-aggregate-same-2
     same-requires-2
-    read-numbers-requires
+    load-requires
     same-length
     returns-3
+    slice-aggregate-same-3
+    same-requires-3
+    replay-requires
     same-length-2
     returns-4
     number-of-requires

@@ -1,9 +1,8 @@
 -- The first `i` numbers stand in the buffer, and the next word begins at `at`.
 use lib.ListN.{length-set, length}
 use Rattle.protocol.proofs.Loading.{Filling, fill-begins, fill-ends, fill-no-number, fill-turns, fill-last, fill-all}
-use Prim.Native.Nat.{ℕ, _-_}
-use mathlib.Core.Path.{_≡_, sym, _∙_}
-use mathlib.Core.Bool.{Bool, true, false}
+use Prim.Native.Nat.{_-_}
+use mathlib.Core.Path.{refl, sym, _∙_}
 use native.Mathlib.Omega.{arith}
 use borrow.Author.Needs.{needs}
 use Rattle.protocol.proofs.command.read_numbers.Statement.{statement}
@@ -14,9 +13,6 @@ Inv-loop numbers to₀ at₀ i₀ to at i = Filling numbers to₀ to at i
 
 abbrev μ-loop : tie.MeasureT-loop
 μ-loop numbers to₀ at₀ i₀ to at i = length to₀ - i
-
-never : _≡_ {A = Bool} false true → ⊥
-never e = let z : _≡_ {A = ℕ} 0 1 = cc in omega arith
 
 loop-holds : tie.Need-loop-holds Inv-loop μ-loop
 loop-holds c = fill-begins _ _
@@ -46,7 +42,7 @@ same-length : tie.Need-same-length Inv-loop μ-loop
 same-length c = c .before .before .before .before .before .before .loop .inv .long
 
 returns : tie.Need-returns Inv-loop μ-loop
-returns c = (fill-no-number _ (c .before .before .before .before .word-end .ensures .0) (c .before .before .before .before .before .before .loop .inv) (c .before .before .before .before .word-end .ensures .1) (sym (c .before .before .number-of .ensures) ∙ c .enum-told .given .1), λ e. absurd (never e))
+returns c = (fill-no-number _ (c .before .before .before .before .word-end .ensures .0) (c .before .before .before .before .before .before .loop .inv) (c .before .before .before .before .word-end .ensures .1) (sym (c .before .before .number-of .ensures) ∙ c .enum-told .given .1), (omega arith, refl))
 
 mul-to : tie.Need-mul-to Inv-loop μ-loop
 mul-to c = search needs
@@ -61,7 +57,7 @@ same-length-2 : tie.Need-same-length-2 Inv-loop μ-loop
 same-length-2 c = simp length-set (c .before .before .before .before .before .before .before .before .loop .inv .long)
 
 returns-2 : tie.Need-returns-2 Inv-loop μ-loop
-returns-2 c = (fill-last _ (c .before .before .before .before .before .before .word-end .ensures .0) (c .before .before .n .given .0 .0) (sym (c .before .before .before .before .number-of .ensures) ∙ c .before .before .n .given .1) (c .before .before .before .before .before .before .before .before .loop .inv) (omega (arith, c .before .before .before .before .before .before .before .before .loop .inv .long)) (c .if1 .taken), λ e. fill-all _ (c .before .before .before .before .before .before .word-end .ensures .0) (c .before .before .n .given .0 .0) (sym (c .before .before .before .before .number-of .ensures) ∙ c .before .before .n .given .1) (c .before .before .before .before .before .before .before .before .loop .inv) (omega (arith, c .before .before .before .before .before .before .before .before .loop .inv .long)) (c .if1 .taken) e)
+returns-2 c = (fill-last _ (c .before .before .before .before .before .before .word-end .ensures .0) (c .before .before .n .given .0 .0) (sym (c .before .before .before .before .number-of .ensures) ∙ c .before .before .n .given .1) (c .before .before .before .before .before .before .before .before .loop .inv) (omega (arith, c .before .before .before .before .before .before .before .before .loop .inv .long)) (c .if1 .taken), (omega (arith, c .before .before .before .before .before .before .before .before .loop .inv .long), fill-all _ (c .before .before .before .before .before .before .word-end .ensures .0) (c .before .before .n .given .0 .0) (sym (c .before .before .before .before .number-of .ensures) ∙ c .before .before .n .given .1) (c .before .before .before .before .before .before .before .before .loop .inv) (omega (arith, c .before .before .before .before .before .before .before .before .loop .inv .long)) (c .if1 .taken)))
 
 add-at : tie.Need-add-at Inv-loop μ-loop
 add-at c = search needs
@@ -76,7 +72,7 @@ same-length-3 : tie.Need-same-length-3 Inv-loop μ-loop
 same-length-3 c = c .before .loop .inv .long
 
 returns-3 : tie.Need-returns-3 Inv-loop μ-loop
-returns-3 c = (fill-ends (c .before .loop .inv) (omega (arith, c .before .loop .inv .long)), λ e. absurd (never e))
+returns-3 c = (fill-ends (c .before .loop .inv) (omega (arith, c .before .loop .inv .long)), (omega arith, refl))
 
 pub read-numbers-spec : {M : Type 1} → statement M
 read-numbers-spec =

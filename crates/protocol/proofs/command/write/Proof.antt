@@ -3,7 +3,7 @@ use lib.Seq.{length-take-le}
 use Rattle.protocol.specs.Decimal.{numberOf}
 use Rattle.protocol.proofs.Splitting.{rest-of, write-single, write-no-address, write-large-address, write-no-byte, write-large-byte, write-both}
 use Prim.Native.Nat.{_+_}
-use mathlib.Core.Path.{sym, ap, _∙_}
+use mathlib.Core.Path.{refl, sym, ap, _∙_}
 use native.Mathlib.Omega.{arith}
 use borrow.Author.Needs.{needs}
 use Rattle.protocol.proofs.command.write.Statement.{statement}
@@ -13,7 +13,7 @@ word-end-requires : tie.Need-word-end-requires
 word-end-requires c κs = search needs
 
 returns : tie.Need-returns
-returns c = write-single _ (c .before .word-end .result) (c .before .word-end .ensures .0) (c .if1 .taken)
+returns c = (write-single _ (c .before .word-end .result) (c .before .word-end .ensures .0) (c .if1 .taken), refl)
 
 slice-aggregate-number-of : tie.Need-slice-aggregate-number-of
 slice-aggregate-number-of c = sym (length-take-le _ _ (c .before .before .word-end .ensures .1))
@@ -28,10 +28,10 @@ enum-told : tie.Need-enum-told
 enum-told c = search needs
 
 returns-2 : tie.Need-returns-2
-returns-2 c = write-no-address _ (c .before .before .before .before .before .word-end .result) (c .before .before .before .before .before .word-end .ensures .0) (omega arith) (sym (c .before .before .number-of .ensures) ∙ c .enum-told .given .1)
+returns-2 c = (write-no-address _ (c .before .before .before .before .before .word-end .result) (c .before .before .before .before .before .word-end .ensures .0) (omega arith) (sym (c .before .before .number-of .ensures) ∙ c .enum-told .given .1), refl)
 
 returns-3 : tie.Need-returns-3
-returns-3 c = write-large-address _ (c .before .before .before .before .before .before .before .word-end .result) (c .before .before .before .before .before .before .before .word-end .ensures .0) (omega arith) (c .before .before .a .given .0 .0) (sym (c .before .before .before .before .number-of .ensures) ∙ c .before .before .a .given .1) (c .if2 .taken)
+returns-3 c = (write-large-address _ (c .before .before .before .before .before .before .before .word-end .result) (c .before .before .before .before .before .before .before .word-end .ensures .0) (omega arith) (c .before .before .a .given .0 .0) (sym (c .before .before .before .before .number-of .ensures) ∙ c .before .before .a .given .1) (c .if2 .taken), refl)
 
 add-next : tie.Need-add-next
 add-next c = search needs
@@ -55,10 +55,10 @@ enum-told-2 : tie.Need-enum-told-2
 enum-told-2 c = search needs
 
 returns-4 : tie.Need-returns-4
-returns-4 c = write-no-byte _ (c .before .before .before .before .before .before .before .before .before .before .before .word-end .result) (c .before .before .before .before .before .before .before .before .before .before .before .word-end .ensures .0) (omega arith) (c .before .before .before .before .before .before .a .given .0 .0) (sym (c .before .before .before .before .before .before .before .before .number-of .ensures) ∙ c .before .before .before .before .before .before .a .given .1) (c .before .before .before .before .if2 .left) (ap numberOf (sym (rest-of (c .before .before .before .before .before .before .before .before .before .before .before .before .before .args .numbers .now) (c .before .before .before .before .before .before .before .before .before .before .before .word-end .result + 1))) ∙ sym (c .before .before .number-of2 .ensures) ∙ c .enum-told2 .given .1)
+returns-4 c = (write-no-byte _ (c .before .before .before .before .before .before .before .before .before .before .before .word-end .result) (c .before .before .before .before .before .before .before .before .before .before .before .word-end .ensures .0) (omega arith) (c .before .before .before .before .before .before .a .given .0 .0) (sym (c .before .before .before .before .before .before .before .before .number-of .ensures) ∙ c .before .before .before .before .before .before .a .given .1) (c .before .before .before .before .if2 .left) (ap numberOf (sym (rest-of (c .before .before .before .before .before .before .before .before .before .before .before .before .before .args .numbers .now) (c .before .before .before .before .before .before .before .before .before .before .before .word-end .result + 1))) ∙ sym (c .before .before .number-of2 .ensures) ∙ c .enum-told2 .given .1), refl)
 
 returns-5 : tie.Need-returns-5
-returns-5 c = write-large-byte _ (c .before .before .before .before .before .before .before .before .before .before .before .before .before .word-end .result) (c .before .before .before .before .before .before .before .before .before .before .before .before .before .word-end .ensures .0) (omega arith) (c .before .before .before .before .before .before .before .before .a .given .0 .0) (sym (c .before .before .before .before .before .before .before .before .before .before .number-of .ensures) ∙ c .before .before .before .before .before .before .before .before .a .given .1) (c .before .before .before .before .before .before .if2 .left) (c .before .before .b .given .0 .0) (ap numberOf (sym (rest-of (c .before .before .before .before .before .before .before .before .before .before .before .before .before .before .before .args .numbers .now) (c .before .before .before .before .before .before .before .before .before .before .before .before .before .word-end .result + 1))) ∙ sym (c .before .before .before .before .number-of2 .ensures) ∙ c .before .before .b .given .1) (c .if3 .taken)
+returns-5 c = (write-large-byte _ (c .before .before .before .before .before .before .before .before .before .before .before .before .before .word-end .result) (c .before .before .before .before .before .before .before .before .before .before .before .before .before .word-end .ensures .0) (omega arith) (c .before .before .before .before .before .before .before .before .a .given .0 .0) (sym (c .before .before .before .before .before .before .before .before .before .before .number-of .ensures) ∙ c .before .before .before .before .before .before .before .before .a .given .1) (c .before .before .before .before .before .before .if2 .left) (c .before .before .b .given .0 .0) (ap numberOf (sym (rest-of (c .before .before .before .before .before .before .before .before .before .before .before .before .before .before .before .args .numbers .now) (c .before .before .before .before .before .before .before .before .before .before .before .before .before .word-end .result + 1))) ∙ sym (c .before .before .before .before .number-of2 .ensures) ∙ c .before .before .b .given .1) (c .if3 .taken), refl)
 
 cast-t15 : tie.Need-cast-t15
 cast-t15 c = search needs
@@ -67,7 +67,7 @@ cast-t16 : tie.Need-cast-t16
 cast-t16 c = search needs
 
 returns-6 : tie.Need-returns-6
-returns-6 c = write-both _ (c .before .before .before .before .before .before .before .before .before .before .before .before .before .word-end .result) (c .before .before .before .before .before .before .before .before .before .before .before .before .before .word-end .ensures .0) (omega arith) (c .before .before .before .before .before .before .before .before .a .given .0 .0) (sym (c .before .before .before .before .before .before .before .before .before .before .number-of .ensures) ∙ c .before .before .before .before .before .before .before .before .a .given .1) (c .before .before .before .before .before .before .if2 .left) (c .before .before .b .given .0 .0) (ap numberOf (sym (rest-of (c .before .before .before .before .before .before .before .before .before .before .before .before .before .before .before .args .numbers .now) (c .before .before .before .before .before .before .before .before .before .before .before .before .before .word-end .result + 1))) ∙ sym (c .before .before .before .before .number-of2 .ensures) ∙ c .before .before .b .given .1) (c .if3 .left)
+returns-6 c = (write-both _ (c .before .before .before .before .before .before .before .before .before .before .before .before .before .word-end .result) (c .before .before .before .before .before .before .before .before .before .before .before .before .before .word-end .ensures .0) (omega arith) (c .before .before .before .before .before .before .before .before .a .given .0 .0) (sym (c .before .before .before .before .before .before .before .before .before .before .number-of .ensures) ∙ c .before .before .before .before .before .before .before .before .a .given .1) (c .before .before .before .before .before .before .if2 .left) (c .before .before .b .given .0 .0) (ap numberOf (sym (rest-of (c .before .before .before .before .before .before .before .before .before .before .before .before .before .before .before .args .numbers .now) (c .before .before .before .before .before .before .before .before .before .before .before .before .before .word-end .result + 1))) ∙ sym (c .before .before .before .before .number-of2 .ensures) ∙ c .before .before .b .given .1) (c .if3 .left), refl)
 
 pub write-spec : {M : Type 1} → statement M
 write-spec =

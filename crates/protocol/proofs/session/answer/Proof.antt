@@ -1,9 +1,25 @@
 -- Each command has the answer and the state that the definitions have.
+use lib.Seq.{length-take-le}
+use Rattle.protocol.proofs.Answering.{records-part}
 use Rattle.protocol.specs.Session.{nextOf, keptOf, saidOf}
-use mathlib.Core.Path.{refl}
+use Prim.Native.Nat.{_+_, _-_, _≤_}
+use mathlib.Core.Path.{refl, sym}
+use lib.ListN.{length}
+use native.Mathlib.Omega.{arith}
 use borrow.Author.Needs.{needs}
 use Rattle.protocol.proofs.session.answer.Statement.{statement}
 use Rattle.protocol.proofs.session.answer.Tie as tie
+use Rattle.protocol.proofs.buffer.put.Reads as put-reads
+use Rattle.protocol.proofs.session.load.Reads as load-reads
+use Rattle.protocol.proofs.session.put_current.Reads as put-current-reads
+use Rattle.protocol.proofs.session.put_done.Reads as put-done-reads
+use Rattle.protocol.proofs.session.put_forecast.Reads as put-forecast-reads
+use Rattle.protocol.proofs.session.put_level.Reads as put-level-reads
+use Rattle.protocol.proofs.session.put_pins.Reads as put-pins-reads
+use Rattle.protocol.proofs.session.ran.Reads as ran-reads
+use Rattle.protocol.proofs.session.replayed.Reads as replayed-reads
+use Rattle.protocol.proofs.session.start.Reads as start-reads
+use Rattle.protocol.proofs.session.stepped.Reads as stepped-reads
 
 enum-known-c : tie.Need-enum-known-c
 enum-known-c c = search needs
@@ -23,8 +39,15 @@ put-done-requires c κs = search needs
 enum-told-2 : tie.Need-enum-told-2
 enum-told-2 c = search needs
 
+slice-aggregate-load : tie.Need-slice-aggregate-load
+slice-aggregate-load c =
+    let h : 348 ≤ length (c .before .before .before .before .before .before .before .args .numbers .now) = rw (c .before .enum-told2 .given .1) at (c .before .before .before .before .before .before .before .pre .0) in
+    sym (length-take-le 348 (c .before .before .before .before .before .before .before .args .numbers .now) h)
+
 load-requires : tie.Need-load-requires
-load-requires c κs = search needs
+load-requires c κs =
+    let h : 348 ≤ length (c .before .before .before .before .before .before .before .before .before .args .numbers .now) = rw (c .before .before .before .enum-told2 .given .1) at (c .before .before .before .before .before .before .before .before .before .pre .0) in
+    (length-take-le 348 (c .before .before .before .before .before .before .before .before .before .args .numbers .now) h, (c .before .before .before .before .before .before .before .before .before .pre .1 .0, omega arith))
 
 enum-told-3 : tie.Need-enum-told-3
 enum-told-3 c = search needs
@@ -56,11 +79,34 @@ enum-known-c-3 c = search needs
 ran-requires : tie.Need-ran-requires
 ran-requires c κs = search needs
 
+enum-known-c-4 : tie.Need-enum-known-c-4
+enum-known-c-4 c = search needs
+
+add-end : tie.Need-add-end
+add-end c =
+    let h : c .before .c4 .given .0 .1 .0 + 1 ≤ length (c .before .before .before .before .before .before .before .args .numbers .now) = rw (c .before .c4 .given .1) at (c .before .before .before .before .before .before .before .pre .0) in
+    omega (arith, h)
+
+sub-replayed : tie.Need-sub-replayed
+sub-replayed c = search needs
+
+part-replayed-start : tie.Need-part-replayed-start
+part-replayed-start c = search needs
+
+part-replayed-end : tie.Need-part-replayed-end
+part-replayed-end c = rw (c .before .c4 .given .1) at (c .before .before .before .before .before .before .before .pre .0)
+
+replayed-requires : tie.Need-replayed-requires
+replayed-requires c κs = search needs
+
 enum-told-6 : tie.Need-enum-told-6
 enum-told-6 c = search needs
 
-put-bad-requires : tie.Need-put-bad-requires
-put-bad-requires c κs = search needs
+slice-aggregate-put : tie.Need-slice-aggregate-put
+slice-aggregate-put c = search needs
+
+put-requires : tie.Need-put-requires
+put-requires c κs = search needs
 
 same-length : tie.Need-same-length
 same-length c = search needs
@@ -84,7 +130,7 @@ same-length-4 c = search needs
 
 returns-3 : tie.Need-returns-3
 unfolding nextOf keptOf saidOf
-returns-3 c = rw (c .before .before .before .before .before .before .before .enum-told2 .given .1) (c .before .before .before .before .load .ensures .0, (c .before .before .before .before .load .ensures .1 .0, c .before .before .before .before .load .ensures .1 .1))
+returns-3 c = rw (c .before .before .before .before .before .before .before .before .enum-told2 .given .1) (c .before .before .before .before .load .ensures .0, (c .before .before .before .before .load .ensures .1 .0, c .before .before .before .before .load .ensures .1 .1))
 
 same-length-5 : tie.Need-same-length-5
 same-length-5 c = search needs
@@ -129,7 +175,16 @@ same-length-11 c = search needs
 
 returns-9 : tie.Need-returns-9
 unfolding nextOf keptOf saidOf
-returns-9 c = rw (c .before .before .before .before .enum-told6 .given .1) (refl, (refl, c .before .before .put-bad .ensures))
+returns-9 c =
+    let p = records-part (c .before .before .before .before .before .before .c4 .given .0 .1 .0) (c .before .before .before .before .before .before .before .before .before .before .before .before .args .numbers .now) in
+    rw (c .before .before .before .before .before .before .c4 .given .1) (rw p at (c .before .before .replayed .ensures .0), (refl, rw p at (c .before .before .replayed .ensures .1)))
+
+same-length-12 : tie.Need-same-length-12
+same-length-12 c = search needs
+
+returns-10 : tie.Need-returns-10
+unfolding nextOf keptOf saidOf
+returns-10 c = rw (c .before .before .before .before .before .enum-told6 .given .1) (refl, (refl, c .before .before .put .ensures))
 
 pub answer-spec : {M : Type 1} → statement M
 answer-spec =
@@ -141,6 +196,7 @@ answer-spec =
     start-requires
     put-done-requires
     enum-told-2
+    slice-aggregate-load
     load-requires
     enum-told-3
     put-current-requires
@@ -152,8 +208,15 @@ answer-spec =
     put-level-requires
     enum-known-c-3
     ran-requires
+    enum-known-c-4
+    add-end
+    sub-replayed
+    part-replayed-start
+    part-replayed-end
+    replayed-requires
     enum-told-6
-    put-bad-requires
+    slice-aggregate-put
+    put-requires
     same-length
     returns
     same-length-2
@@ -173,4 +236,6 @@ answer-spec =
     same-length-10
     returns-8
     same-length-11
-    returns-9)
+    returns-9
+    same-length-12
+    returns-10)

@@ -1,8 +1,11 @@
--- The command is that of the line, and so are its numbers where they count.
+-- The command is that of the line, and so are the numbers beside it.
 use Rattle.protocol.proofs.Answering.{line-next, line-said}
+use Prim.Native.Nat.{_-_}
 use borrow.Author.Needs.{needs}
 use Rattle.protocol.proofs.session.answer_line.Statement.{statement}
 use Rattle.protocol.proofs.session.answer_line.Tie as tie
+use Rattle.protocol.proofs.command.command_of.Reads as command-of-reads
+use Rattle.protocol.proofs.session.answer.Reads as answer-reads
 
 command-of-requires : tie.Need-command-of-requires
 command-of-requires c κs = search needs
@@ -21,7 +24,7 @@ same-length-3 c = search needs
 
 returns : tie.Need-returns
 returns c =
-    (line-next _ _ _ _ _ (c .before .before .before .before .before .before .before .before .before .before .command-of .ensures .0) (c .before .before .before .before .before .before .before .before .before .before .command-of .ensures .1) _ _ (c .before .before .before .before .answer .ensures .0) (c .before .before .before .before .answer .ensures .1 .0), line-said _ _ _ _ _ (c .before .before .before .before .before .before .before .before .before .before .command-of .ensures .0) (c .before .before .before .before .before .before .before .before .before .before .command-of .ensures .1) (c .before .before .before .before .answer .ensures .1 .1))
+    (line-next _ _ _ _ _ (c .before .before .before .before .before .before .before .before .before .before .command-of .ensures .0) (c .before .before .before .before .before .before .before .before .before .before .command-of .ensures .1 .1) _ _ (c .before .before .before .before .answer .ensures .0) (c .before .before .before .before .answer .ensures .1 .0), line-said _ _ _ _ _ (c .before .before .before .before .before .before .before .before .before .before .command-of .ensures .0) (c .before .before .before .before .before .before .before .before .before .before .command-of .ensures .1 .1) (c .before .before .before .before .answer .ensures .1 .1))
 
 pub answer-line-spec : {M : Type 1} → statement M
 answer-line-spec =
