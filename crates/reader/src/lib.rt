@@ -1,8 +1,12 @@
-// Reads a capture from a file descriptor, 8,192 records at a time, and replays it from the fresh
-// state.
+// Reads a capture from a file descriptor, 8,192 records at a time, replays it from the fresh state,
+// and writes how that ended.
+use capture::Outcome;
 use capture::Replayed;
 use capture::parts;
 use capture::parts::Progress;
+use libc::STDERR_FILENO;
+use libc::STDOUT_FILENO;
+use protocol::outcome;
 ghost use mathlib.Core.Path.{_≡_};
 ghost use Prim.Native.Nat.{_+_, _*_, _≤_, _^_};
 ghost use lib.ListN.{length};
@@ -18,9 +22,9 @@ struct Filled {
 }
 
 // The answer for a capture, unless a read failed.
-pub struct Judged {
-    pub replayed: Replayed,
-    pub failed: bool,
+struct Judged {
+    replayed: Replayed,
+    failed: bool,
 }
 
 // Reads until the block is full, the input ends or a read fails.
@@ -92,8 +96,8 @@ fn replay_blocks(fd: i32, begun: Progress, block: &mut [u8], records: &mut [u32]
     }
 }
 
-// Replays the capture that a file descriptor gives.
-pub fn replay(fd: i32) -> Judged {
+// The answer for the capture that a file descriptor gives.
+fn judge(fd: i32) -> Judged {
     let mut header = [0u8; 8];
     let mut block = [0u8; 32768];
     let mut records = [0u32; 8192];
@@ -108,4 +112,26 @@ pub fn replay(fd: i32) -> Judged {
         };
     }
     replay_blocks(fd, p, &mut block, &mut records)
+}
+
+// Writes the line that says how a replay ended, and answers whether it could be written.
+fn say(o: Outcome) -> bool {
+    let mut line = [0u8; 40];
+    let end = outcome::put_outcome(o, &mut line, 0);
+    io::write_all(STDOUT_FILENO, &line[..end])
+}
+
+// Replays the capture that a file descriptor gives, and writes how it ended. Where reading or
+// writing fails, standard error gets a message.
+pub fn replay(fd: i32) {
+    let j = judge(fd);
+    if j.failed {
+        io::write_all(STDERR_FILENO, b"replay: the capture cannot be read\n");
+        return;
+    }
+    let r = j.replayed;
+    let o = r.outcome;
+    if !say(o) {
+        io::write_all(STDERR_FILENO, b"replay: the answer cannot be written\n");
+    }
 }

@@ -1,0 +1,7 @@
+// Takes a capture from standard input, and writes a line: agreed, or differs with the place, the
+// byte seen and the model's byte, or refused with the number and the place.
+use libc::STDIN_FILENO;
+
+fn main() {
+    reader::replay(STDIN_FILENO);
+}
