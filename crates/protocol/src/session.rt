@@ -207,10 +207,10 @@ fn replayed(s: Session, version: u32, records: &[u32], out: &mut [u8], at: usize
     ensures { λ r. ⌜ Appended (now (out .entry)) at (outcomeLine (replayOf version (s .state) (now (records .entry)) .outcome)) (now (out .exit)) (r .end) ⌝ }
 {
     let t = s.state;
-    let a = capture::replay(t, version, records);
-    let o = a.outcome;
+    let played = capture::replay(t, version, records);
+    let o = played.outcome;
     let end = outcome::put_outcome(o, out, at);
-    let state = a.state;
+    let state = played.state;
     Said {
         session: Session {
             state,
