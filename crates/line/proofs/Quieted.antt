@@ -8,6 +8,7 @@ use lib.Dec.{eqb}
 use borrow.Author.Tests.{not-true, not-false, eq-eqb, ne-eqb, eqb-true}
 use Rattle.flag.specs.Flag.{on}
 use Rattle.flag.proofs.Laws.{by-test}
+use Rattle.frame.specs.Frame.{lineLevel}
 use Rattle.device.specs.declared.Frame.{Frame}
 use Rattle.device.specs.declared.Receiver.{Receiver}
 use Rattle.device.specs.declared.Received.{Received}
@@ -33,10 +34,16 @@ settled-parts s e k x v l c h =
     ap (λ (n : ℕ). settledHold (s .registers) (s .fifo) (s .rx .count) n) h ∙ ap (λ (t : State). t .latches .hold) e ∙ sym h in
     rw (changes, hold)
 
+-- The line is high where nothing is sent, or where SIN is.
+line-high : (b : Bool) (x : Frame) (sin : ℕ) → cond b (eqb (x .left) 0) (eqb sin 1) ≡ true → cond b (line x) sin ≡ 1
+unfolding lineLevel
+line-high true x sin e = simp e
+line-high false x sin e = eqb-true sin 1 e
+
 -- A pulse that only steps on is the receiver's.
-pub steady-receives : (h lcr : ℕ) (v : Receiver) → steady h v ≡ true → receive h lcr v ≡ goesOn (stepped v)
+pub steady-receives : (b : Bool) (x : Frame) (sin lcr : ℕ) (v : Receiver) → steady b (x .left) sin v ≡ true → receive (cond b (line x) sin) lcr v ≡ goesOn (stepped v)
 unfolding receive inCharacter steady stepped
-steady-receives h lcr v e =
+steady-receives b x sin lcr v e =
     elim (ℕ-discrete (v .phase) 2) [
       | yes p ↦
           let two : eqb (v .phase) 2 ≡ true = eq-eqb _ _ p in
@@ -47,12 +54,15 @@ steady-receives h lcr v e =
           idle two (simp two at e)
     ]
   where
-    idle : eqb (v .phase) 2 ≡ false → cond (eqb (v .phase) 0) (eqb h 1) false ≡ true → receive h lcr v ≡ goesOn (stepped v)
+    h : ℕ
+    h = cond b (line x) sin
+
+    idle : eqb (v .phase) 2 ≡ false → cond (eqb (v .phase) 0) (cond b (eqb (x .left) 0) (eqb sin 1)) false ≡ true → receive h lcr v ≡ goesOn (stepped v)
     idle two f =
         elim (ℕ-discrete (v .phase) 0) [
           | yes p ↦
               let zero : eqb (v .phase) 0 ≡ true = eq-eqb _ _ p in
-              let high : h ≡ 1 = eqb-true _ _ (simp zero at f) in
+              let high : h ≡ 1 = line-high b x sin (simp zero at f) in
               let one : eqb (v .phase) 1 ≡ false = ne-eqb (v .phase) 1 (λ q. absurd (omega (arith, p, q))) in
               let low : eqb h 0 ≡ false = ne-eqb h 0 (λ q. absurd (omega (arith, high, q))) in
               simp (two, one, low)

@@ -61,10 +61,13 @@ assembled s k x v l =
 unfoldable pub shiftedOut : Frame → Frame
 shiftedOut x = cond (eqb (x .left - 1) 0) noFrame (record { left = x .left - 1; byte = x .byte; format = x .format })
 
--- a pulse that only steps on: between two samples of a character, or idle on a high line
-unfoldable pub steady : ℕ → Receiver → Bool
-steady h v =
-    cond (eqb (v .phase) 2) (not (eqb ((v .position + 1) % 16) 8)) (cond (eqb (v .phase) 0) (eqb h 1) false)
+-- a pulse that only steps on, with so many pulses left of the frame: between two samples of a character, or idle on a line
+-- that is high because nothing is sent, or because SIN is
+unfoldable pub steady : Bool → ℕ → ℕ → Receiver → Bool
+steady looped left sin v =
+    cond (eqb (v .phase) 2)
+    (not (eqb ((v .position + 1) % 16) 8))
+    (cond (eqb (v .phase) 0) (cond looped (eqb left 0) (eqb sin 1)) false)
 
 -- the receiver after it
 unfoldable pub stepped : Receiver → Receiver

@@ -79,8 +79,7 @@ pub fn quiet_pulse(c: Setting, x: Frame, v: Receiver, l: Latches) -> QuietPulse
     if flag::both(next.left == 0, c.ready) {
         return busy(x, v, l);
     }
-    let level = receiver::heard(c.loopback, next, c.sin);
-    if receiver::steady(level, v) {
+    if receiver::steady(c.loopback, next.left, c.sin, v) {
         let stepped = receiver::step(v);
         return QuietPulse {
             quiet: true,
@@ -89,6 +88,7 @@ pub fn quiet_pulse(c: Setting, x: Frame, v: Receiver, l: Latches) -> QuietPulse
             latches: later(c, l),
         };
     }
+    let level = receiver::heard(c.loopback, next, c.sin);
     let r = receiver::receive(level, c.lcr, v);
     if r.ended {
         return busy(x, v, l);

@@ -173,18 +173,23 @@ pub fn receive(level: u8, lcr: u8, v: Receiver) -> Received
     goes_on(v)
 }
 
-// Whether the pulse only steps on: between two samples of a character, or idle on a high line.
-pub fn steady(level: u8, v: Receiver) -> bool
+// Whether the pulse only steps on, with so many pulses left of the frame: between two samples of a
+// character, or idle on a line that is high because nothing is sent, or because SIN is. No level is
+// computed for it.
+pub fn steady(loopback: bool, left: u32, sin: u8, v: Receiver) -> bool
     requires { ⌜ Placed v ⌝ }
-    ensures { λ r. ⌜ r ≡ «steady-of» level v ⌝ }
+    ensures { λ r. ⌜ r ≡ «steady-of» loopback left sin v ⌝ }
 {
     if v.phase == CHARACTER {
         return (v.position + 1) % 16 != 8;
     }
-    if v.phase == IDLE {
-        return level == 1;
+    if v.phase != IDLE {
+        return false;
     }
-    false
+    if loopback {
+        return left == 0;
+    }
+    sin == 1
 }
 
 // The receiver after such a pulse: in a character at the next position, else as it was.
