@@ -2,7 +2,7 @@
 -- at place i, what a turn does and what the loop comes to.
 use Prim.Native.Nat.{ℕ, _+_, _≤_, _<_, min}
 use mathlib.Core.Path.{_≡_, refl, sym, ap, _∙_}
-use mathlib.Core.Bool.{Bool, true, false, _&&_}
+use mathlib.Core.Bool.{Bool, true, false, _&&_, _||_}
 use mathlib.Core.List.{List, [], _∷_, _++_, map}
 use lib.ListN.{length, getD, take, drop, set, length-take, length-drop, length-map, drop-of-length-le}
 use lib.Seq.{drop-cons, take-suc, set-at, append-snoc, getD-append-add, getD-drop, getD-take, length-take-le, take-all}
@@ -28,6 +28,14 @@ and-true : (a : Bool) → (a && true) ≡ a
 and-true true = refl
 and-true false = refl
 
+or-assoc : (a b c : Bool) → ((a || b) || c) ≡ (a || (b || c))
+or-assoc true b c = refl
+or-assoc false b c = refl
+
+or-false : (a : Bool) → (a || false) ≡ a
+or-false true = refl
+or-false false = refl
+
 -- Testing all: the test of the n places xs gives b, where a is that of those already seen, and the others stand from place i on.
 pub record Testing {A : Type 0} (p : A → Bool) (n : ℕ) (xs : List A) (b a : Bool) (i : ℕ) : Type 0 where
   pub long : length xs ≡ n
@@ -44,27 +52,26 @@ module _ {A : Type 0} {p : A → Bool} {n : ℕ} {xs : List A} {b a : Bool} {i :
       let k : length xs ≤ i = omega arith in
       sym (and-true a) ∙ rw (drop-of-length-le xs k) at (w .same)
 
--- Finding one: the search of the m that are queued in the n places xs, from place i on, gives b.
-pub record Finding {A : Type 0} (p : A → Bool) (n m : ℕ) (xs : List A) (b : Bool) (i : ℕ) : Type 0 where
+-- Finding one: the search of the m that are queued in the n places xs gives b, where a is that of those already seen, and the
+-- others stand from place i on.
+pub record Finding {A : Type 0} (p : A → Bool) (n m : ℕ) (xs : List A) (b a : Bool) (i : ℕ) : Type 0 where
   pub long : length xs ≡ n
-  pub same : anyOf p (drop i (contents m xs)) ≡ b
+  pub same : (a || anyOf p (drop i (contents m xs))) ≡ b
 
-module _ {A : Type 0} {p : A → Bool} {n m : ℕ} {xs : List A} {b : Bool} {i : ℕ} where
-  find-at : (d : A) → Finding p n m xs b i → i < n → i < m → anyOf p (getD xs i d ∷ drop (i + 1) (contents m xs)) ≡ b
-  find-at d w h k =
-      let l : i < length (contents m xs) = simp length-take (omega arith) in
-      rw (drop-at (contents m xs) i d l, getD-take m xs i d k) at (w .same)
+module _ {A : Type 0} {p : A → Bool} {n m : ℕ} {xs : List A} {b a : Bool} {i : ℕ} where
+  pub find-turns : (d : A) → Finding p n m xs b a i → i < min m n → Finding p n m xs b (a || p (getD xs i d)) (i + 1)
+  find-turns d w h =
+      let k : i < m = omega arith in
+      let l : i < length (contents m xs) = simp length-take (omega (arith, w .long)) in
+      record {
+        long = w .long;
+        same = or-assoc a (p (getD xs i d)) (anyOf p (drop (i + 1) (contents m xs))) ∙ rw (drop-at (contents m xs) i d l, getD-take m xs i d k) at (w .same);
+      }
 
-  pub find-turns : (d : A) → Finding p n m xs b i → i < n → i < m → p (getD xs i d) ≡ false → Finding p n m xs b (i + 1)
-  find-turns d w h k t = record { long = w .long; same = simp t at (find-at d w h k) }
-
-  pub find-found : (d : A) → Finding p n m xs b i → i < n → i < m → p (getD xs i d) ≡ true → true ≡ b
-  find-found d w h k t = simp t at (find-at d w h k)
-
-  pub find-ends : Finding p n m xs b i → min m n ≤ i → false ≡ b
+  pub find-ends : Finding p n m xs b a i → min m n ≤ i → a ≡ b
   find-ends w h =
-      let k : length (contents m xs) ≤ i = simp length-take (omega arith) in
-      rw (drop-of-length-le (contents m xs) k) at (w .same)
+      let k : length (contents m xs) ≤ i = simp length-take (omega (arith, w .long)) in
+      sym (or-false a) ∙ rw (drop-of-length-le (contents m xs) k) at (w .same)
 
 -- Shifting: of the n places ys the first i have what stands one place further in xs, the others what stands there in xs.
 pub record Shifting {A : Type 0} (n : ℕ) (xs ys : List A) (i : ℕ) : Type 0 where

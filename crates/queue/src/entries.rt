@@ -5,7 +5,7 @@ use crate::EntryQueue;
 use crate::LAST;
 use crate::PLACES;
 ghost use mathlib.Core.Path.{_≡_};
-ghost use Prim.Native.Nat.{_<_, _≤_};
+ghost use Prim.Native.Nat.{_<_, _≤_, min};
 ghost use Rattle.queue.specs.Queue.{putEntry, takeEntry, noEntries, noEntry, zeroEntry, shifted, entryRest, flagsInRange, entryFlags, hasError, entryErrors};
 
 // The entry of a place not in use.
@@ -160,22 +160,24 @@ pub fn flags_are_bits(q: EntryQueue) -> bool
     bits
 }
 
+// The places in use of a queue with this count.
+fn places_in_use(count: u32) -> usize
+    ensures { λ r. ⌜ r ≡ min count 64 ⌝ }
+{
+    if count < 64 { count as usize } else { PLACES }
+}
+
 // Whether some entry in the queue has an error.
 pub fn any_error(q: EntryQueue) -> bool
     ensures { λ r. ⌜ r ≡ entryErrors q ⌝ }
 {
-    let entries = q.entries;
-    let count = q.count as usize;
+    let n = places_in_use(q.count);
+    let mut error = false;
     let mut i: usize = 0;
-    while i < PLACES {
-        if count <= i {
-            return false;
-        }
-        let e = entries[i];
-        if has_error(e) {
-            return true;
-        }
+    while i < n {
+        let e = q.entries[i];
+        error = flag::either(error, has_error(e));
         i += 1;
     }
-    false
+    error
 }

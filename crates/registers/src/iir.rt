@@ -3,10 +3,9 @@ use crate::ier;
 use crate::rbr;
 use crate::thr;
 use device::FifoControl;
-use device::Reading;
 use device::State;
 ghost use mathlib.Core.Path.{_≡_};
-ghost use mathlib.Core.Bool.{cond};
+ghost use mathlib.Core.Bool.{cond, false};
 ghost use Prim.Native.Nat.{_≤_};
 ghost use lib.Dec.{leb, ltb};
 ghost use Rattle.flag.specs.Flag.{on};
@@ -137,16 +136,28 @@ fn fifo_code(f: FifoControl) -> u8
     if f.size == 1 { IIR_FIFO_64 } else { IIR_FIFO }
 }
 
-// The code and the FIFO's bits. Answering 02 clears the transmit-empty latch.
-pub fn read(s: State) -> Reading
-    ensures { λ r. ⌜ r ≡ iirRead s ⌝ }
+// The code and the FIFO's bits.
+pub fn value(s: State) -> u8
+    ensures { λ r. ⌜ r ≡ iirRead s .byte ⌝ }
 {
-    let code = interrupt_code(s);
-    let byte = code + fifo_code(s.fifo);
+    interrupt_code(s) + fifo_code(s.fifo)
+}
+
+// Whether a read may change the state.
+pub fn read_changes(s: State) -> bool
+    ensures { λ r. ⌜ (r ≡ false → iirRead s .state ≡ s) ⌝ }
+{
+    s.latches.empty != 0
+}
+
+// After a read: answering 02 clears the transmit-empty latch.
+pub fn after_read(s: State) -> State
+    ensures { λ r. ⌜ r ≡ iirRead s .state ⌝ }
+{
     let mut next = s;
     next.latches = thr::with_empty(s.latches, 0);
-    if code == IIR_TRANSMIT {
-        return Reading { byte, state: next };
+    if interrupt_code(s) == IIR_TRANSMIT {
+        return next;
     }
-    Reading { byte, state: s }
+    s
 }

@@ -1,10 +1,10 @@
 // LSR, line status register.
 use crate::rbr;
-use device::Reading;
 use device::State;
 use queue::Entry;
 use queue::EntryQueue;
 ghost use mathlib.Core.Path.{_≡_};
+ghost use mathlib.Core.Bool.{false};
 ghost use Rattle.device.specs.Lsr.{transmitterEmpty, lsr as «lsr-of», clearErrors, lsrRead};
 
 // Whether transmit queue and shift register are both empty.
@@ -18,10 +18,9 @@ pub fn transmitter_empty(s: State) -> bool
 pub fn value(s: State) -> u8
     ensures { λ r. ⌜ r ≡ «lsr-of» s ⌝ }
 {
-    let q = s.rx;
-    let e = rbr::oldest(q);
-    let error = flag::both(s.fifo.enabled == 1, queue::entries::any_error(q));
-    let low = flag::nibble(0 < q.count, s.latches.overrun == 1, e.pe == 1, e.fe == 1);
+    let e = rbr::oldest(s.rx);
+    let error = flag::both(s.fifo.enabled == 1, queue::entries::any_error(s.rx));
+    let low = flag::nibble(0 < s.rx.count, s.latches.overrun == 1, e.pe == 1, e.fe == 1);
     let high = flag::nibble(e.bi == 1, s.tx.count == 0, transmitter_empty(s), error);
     low + 16 * high
 }
@@ -42,14 +41,30 @@ fn clear_errors(q: EntryQueue) -> EntryQueue
     next
 }
 
-// The value; then OE and the oldest entry's errors are cleared.
-pub fn read(s: State) -> Reading
-    ensures { λ r. ⌜ r ≡ lsrRead s ⌝ }
+// Whether a read changes the state.
+pub fn read_changes(s: State) -> bool
+    ensures { λ r. ⌜ (r ≡ false → lsrRead s .state ≡ s) ⌝ }
 {
-    let byte = value(s);
+    let e = rbr::oldest(s.rx);
+    if s.latches.overrun != 0 {
+        return true;
+    }
+    if e.pe != 0 {
+        return true;
+    }
+    if e.fe != 0 {
+        return true;
+    }
+    e.bi != 0
+}
+
+// After a read: OE and the oldest entry's errors are cleared.
+pub fn after_read(s: State) -> State
+    ensures { λ r. ⌜ r ≡ lsrRead s .state ⌝ }
+{
     let rx = clear_errors(s.rx);
     let mut next = s;
     next.rx = rx;
     next.latches.overrun = 0;
-    Reading { byte, state: next }
+    next
 }

@@ -1,8 +1,8 @@
 // MSR, modem status register.
-use device::Reading;
 use device::State;
 use device::modem;
 ghost use mathlib.Core.Path.{_≡_};
+ghost use mathlib.Core.Bool.{false};
 ghost use Prim.Native.Nat.{_≤_};
 ghost use Rattle.device.specs.Msr.{withLevels, msrRead};
 
@@ -18,15 +18,28 @@ pub fn with_levels(s: State, t: State) -> State
     next
 }
 
-// The effective levels above their change bits, which are then cleared.
-pub fn read(s: State) -> Reading
+// The effective levels above their change bits.
+pub fn value(s: State) -> u8
     requires { ⌜ s .latches .changes ≤ 15 ⌝ }
     requires { ⌜ s .inputs .modem ≤ 15 ⌝ }
-    ensures { λ r. ⌜ r ≡ msrRead s ⌝ }
+    ensures { λ r. ⌜ r ≡ msrRead s .byte ⌝ }
 {
     let levels = modem::effective_levels(s.registers, s.inputs);
-    let byte = s.latches.changes + 16 * levels;
+    s.latches.changes + 16 * levels
+}
+
+// Whether a read changes the state.
+pub fn read_changes(s: State) -> bool
+    ensures { λ r. ⌜ (r ≡ false → msrRead s .state ≡ s) ⌝ }
+{
+    s.latches.changes != 0
+}
+
+// After a read: the change bits are cleared.
+pub fn after_read(s: State) -> State
+    ensures { λ r. ⌜ r ≡ msrRead s .state ⌝ }
+{
     let mut next = s;
     next.latches.changes = 0;
-    Reading { byte, state: next }
+    next
 }

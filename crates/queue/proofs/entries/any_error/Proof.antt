@@ -1,39 +1,31 @@
--- The search from place `i` on is that of all that are queued, until an entry has an error, the count is reached or no place is left.
-use Prim.Native.Nat.{_-_}
-use mathlib.Core.Path.{refl, sym, _∙_}
+-- The search of all that are queued is that of those seen and that of those from `i` on, and in the end that of those seen.
+use Prim.Native.Nat.{_-_, min}
+use mathlib.Core.Path.{_≡_, refl}
 use native.Mathlib.Omega.{arith}
 use borrow.Author.Needs.{needs}
 use Rattle.flag.specs.Flag.{anyOf}
 use Rattle.queue.specs.Queue.{contents, entryErrors, hasError, noEntry}
-use Rattle.queue.proofs.Laws.{length-mapped, Finding, find-turns, find-found, find-ends}
+use Rattle.queue.proofs.Laws.{length-mapped, Finding, find-turns, find-ends}
 use Rattle.queue.proofs.entries.any_error.Statement.{statement}
 use Rattle.queue.proofs.entries.any_error.Tie as tie
 
 abbrev Inv-loop : tie.InvT-loop
-Inv-loop entries count i₀ i = Finding hasError 64 count entries (anyOf hasError (contents count entries)) i
+Inv-loop q n error₀ i₀ error i = (n ≡ min (q .count) 64) × Finding hasError 64 (q .count) (q .entries) (anyOf hasError (contents (q .count) (q .entries))) error i
 
 abbrev μ-loop : tie.MeasureT-loop
-μ-loop entries count i₀ i = 64 - i
+μ-loop q n error₀ i₀ error i = n - i
 
 loop-holds : tie.Need-loop-holds Inv-loop μ-loop
-loop-holds c = record { long = search (length-mapped, needs); same = refl }
-
-returns : tie.Need-returns Inv-loop μ-loop
-unfolding entryErrors
-returns c = find-ends (c .before .before .loop .inv) (omega arith)
-
-returns-2 : tie.Need-returns-2 Inv-loop μ-loop
-unfolding entryErrors
-returns-2 c =
-    find-found noEntry (c .before .before .before .before .before .loop .inv) (omega arith) (omega arith) (sym (c .before .has-error .ensures) ∙ c .if2 .taken)
+loop-holds c = (c .places-in-use .ensures, record { long = search (length-mapped, needs); same = refl })
 
 loop-again : tie.Need-loop-again Inv-loop μ-loop
 loop-again c =
-    find-turns noEntry (c .before .before .before .before .before .loop .inv) (omega arith) (omega arith) (sym (c .before .has-error .ensures) ∙ c .if2 .left)
+    let w = c .before .before .before .before .loop .inv in
+    (w .0, rw (c .either .ensures, c .before .has-error .ensures) (find-turns noEntry (w .1) (omega (arith, w .0))))
 
-returns-3 : tie.Need-returns-3 Inv-loop μ-loop
+returns : tie.Need-returns Inv-loop μ-loop
 unfolding entryErrors
-returns-3 c = find-ends (c .before .loop .inv) (omega arith)
+returns c = find-ends (c .before .loop .inv .1) (omega (arith, c .before .loop .inv .0))
 
 pub any-error-spec : {M : Type 1} → statement M
 any-error-spec =
@@ -41,14 +33,13 @@ any-error-spec =
     (tie.spec
     Inv-loop
     μ-loop
-    (λ c. search needs)
+    (λ c κs. search needs)
     loop-holds
-    returns
     (λ c. search needs)
     (λ c. search needs)
     (λ c κs. search needs)
-    returns-2
+    (λ c κs. search needs)
     (λ c. search needs)
     (λ c. search needs)
     loop-again
-    returns-3)
+    returns)

@@ -1,0 +1,12 @@
+-- With the latch clear there is nothing to clear.
+use Rattle.registers.proofs.Laws.{iir-kept}
+use Prim.Native.Nat.{_-_}
+use borrow.Author.Tests.{eqb-true, not-false}
+use Rattle.registers.proofs.iir.read_changes.Statement.{statement}
+use Rattle.registers.proofs.iir.read_changes.Tie as tie
+
+returns : tie.Need-returns
+returns c = λ e. iir-kept _ (eqb-true _ _ (not-false _ e))
+
+pub read-changes-spec : {M : Type 1} → statement M
+read-changes-spec = tie.close (tie.spec returns)

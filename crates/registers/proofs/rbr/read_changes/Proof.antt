@@ -1,0 +1,12 @@
+-- Empty, the state stays.
+use Rattle.registers.proofs.Laws.{rbr-kept}
+use Prim.Native.Nat.{_-_}
+use borrow.Author.Tests.{not-false}
+use Rattle.registers.proofs.rbr.read_changes.Statement.{statement}
+use Rattle.registers.proofs.rbr.read_changes.Tie as tie
+
+returns : tie.Need-returns
+returns c = λ e. rbr-kept _ (not-false _ e)
+
+pub read-changes-spec : {M : Type 1} → statement M
+read-changes-spec = tie.close (tie.spec returns)
