@@ -79,7 +79,8 @@ fn refused(number: u8, s: State, place: usize) -> Replayed
 }
 
 // Replays records one by one from a well-formed state, up to the first that is bad or a read that
-// differs.
+// differs. What a record does not touch stays where it is: most reads change nothing, most writes
+// no queue.
 fn replay_records(s: State, records: &[u32]) -> Replayed
     requires { ⌜ wellFormed s ≡ true ⌝ }
     ensures { λ r. ⌜ r ≡ replayFrom 0 s (now (records .entry)) ⌝ }
@@ -95,17 +96,32 @@ fn replay_records(s: State, records: &[u32]) -> Replayed
         if !record::good(w) {
             break i;
         }
+        if step::writes_numbers(t, w) {
+            let n = step::write_numbers(t, w);
+            let registers = n.registers;
+            let baud = n.baud;
+            let latches = n.latches;
+            t.registers = registers;
+            t.baud = baud;
+            t.latches = latches;
+            i += 1;
+            continue;
+        }
         if record::kind(w) != record::READ {
             t = step::step(t, w);
             i += 1;
             continue;
         }
-        let r = step::read(t, record::address(w));
-        model = r.byte;
+        let a = record::address(w);
+        model = registers::value(t, a);
         if model != record::byte(w) {
             break i;
         }
-        t = r.state;
+        if !registers::read_changes(t, a) {
+            i += 1;
+            continue;
+        }
+        t = step::after_read(t, a);
         i += 1;
     };
     if records.len() <= place {

@@ -1,6 +1,5 @@
 // What a good record does to a well-formed state. The public calls do the same after looking at
 // the state.
-use device::Reading;
 use device::State;
 use device::autoflow;
 use device::with_inputs;
@@ -14,31 +13,47 @@ ghost use Rattle.recorder.specs.Record.{isRead};
 ghost use Rattle.device.specs.Ranges.{wellFormed};
 ghost use Rattle.device.specs.Calls.{readOf};
 ghost use Rattle.capture.specs.Replay.{stepOf};
+ghost use Rattle.capture.specs.Numbers.{writesNumbers};
 
-// A register read.
-pub fn read(s: State, address: u8) -> Reading
+// The state after a register read.
+pub fn after_read(s: State, address: u8) -> State
     requires { ⌜ wellFormed s ≡ true ⌝ }
     requires { ⌜ address ≤ 7 ⌝ }
-    ensures { λ r. ⌜ r ≡ record { byte = readOf s address .byte; state = readOf s address .state } ⌝ }
+    ensures { λ r. ⌜ r ≡ readOf s address .state ⌝ }
 {
-    let r = registers::read_register(s, address);
-    let t = r.state;
-    Reading {
-        byte: r.byte,
-        state: autoflow::settle(t),
-    }
+    autoflow::settle(registers::after_read(s, address))
 }
 
-// The state after a record that is no read.
+// Whether a record is a write that reaches no queue.
+pub fn writes_numbers(s: State, w: u32) -> bool
+    ensures { λ r. ⌜ r ≡ writesNumbers s w ⌝ }
+{
+    if record::kind(w) != record::WRITE {
+        return false;
+    }
+    !registers::reaches_queue(s, record::address(w))
+}
+
+// The state after such a write.
+pub fn write_numbers(s: State, w: u32) -> State
+    requires { ⌜ wellFormed s ≡ true ⌝ }
+    requires { ⌜ writesNumbers s w ≡ true ⌝ }
+    ensures { λ r. ⌜ r ≡ stepOf s w ⌝ }
+{
+    autoflow::settle(registers::write_numbers(s, record::address(w), record::byte(w)))
+}
+
+// The state after any other record that is no read.
 pub fn step(s: State, w: u32) -> State
     requires { ⌜ wellFormed s ≡ true ⌝ }
     requires { ⌜ isRead w ≡ false ⌝ }
+    requires { ⌜ writesNumbers s w ≡ false ⌝ }
     ensures { λ r. ⌜ r ≡ stepOf s w ⌝ }
 {
     let i = s.inputs;
     match record::kind(w) {
         record::TICKS => tick::advance(s, record::count(w)),
-        record::WRITE => autoflow::settle(registers::write_register(
+        record::WRITE => autoflow::settle(registers::write_queue(
             s,
             record::address(w),
             record::byte(w),

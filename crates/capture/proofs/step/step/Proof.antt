@@ -1,7 +1,7 @@
 -- Each arm is the call that the record stands for, on a well-formed state.
-use Rattle.capture.proofs.Laws.{address-fits, sin-fits, modem-fits, other-kind}
+use Rattle.capture.proofs.Laws.{sin-fits, modem-fits, other-kind, reaches-some, write-step}
 use Rattle.capture.specs.Replay.{stepOf}
-use Rattle.device.specs.Calls.{done, resetOf, writeOf, sinOf, modemOf}
+use Rattle.device.specs.Calls.{done, resetOf, sinOf, modemOf}
 use Prim.Native.Nat.{_-_}
 use mathlib.Core.Path.{sym, _∙_}
 use borrow.Author.Needs.{needs}
@@ -18,7 +18,7 @@ use Rattle.recorder.proofs.record.kind.Reads as kind-reads
 use Rattle.recorder.proofs.record.modem.Reads as modem-reads
 use Rattle.recorder.proofs.record.sin.Reads as sin-reads
 use Rattle.registers.proofs.msr.with_levels.Reads as with-levels-reads
-use Rattle.registers.proofs.write_register.Reads as write-register-reads
+use Rattle.registers.proofs.write_queue.Reads as write-queue-reads
 
 kind-requires : tie.Need-kind-requires
 kind-requires c κs = search needs
@@ -35,8 +35,8 @@ address-requires c κs = search needs
 byte-requires : tie.Need-byte-requires
 byte-requires c κs = search needs
 
-write-register-requires : tie.Need-write-register-requires
-write-register-requires c κs = search needs
+write-queue-requires : tie.Need-write-queue-requires
+write-queue-requires c κs = rw (c .before .address .ensures) (reaches-some (c .before .before .before .before .before .args .s) (c .before .before .before .before .before .args .w) (c .before .before .before .before .before .pre .1 .1) (sym (c .before .before .before .kind .ensures) ∙ c .before .before .match .keys2))
 
 settle-requires : tie.Need-settle-requires
 settle-requires c κs = search needs
@@ -73,8 +73,7 @@ unfolding stepOf
 returns c = rw (c .advance .ensures, c .before .count .ensures) (simp (sym (c .before .before .before .kind .ensures) ∙ c .before .before .match .keys1))
 
 returns-2 : tie.Need-returns-2
-unfolding stepOf writeOf done
-returns-2 c = rw (c .settle .ensures, c .before .write-register .ensures, c .before .before .byte .ensures, c .before .before .before .address .ensures) (simp (sym (c .before .before .before .before .before .kind .ensures) ∙ c .before .before .before .before .match .keys2, c .before .before .before .before .before .before .before .pre .0, address-fits (c .before .before .before .before .before .before .before .args .w)))
+returns-2 c = rw (c .settle .ensures, c .before .write-queue .ensures, c .before .before .byte .ensures, c .before .before .before .address .ensures) (sym (write-step _ _ (c .before .before .before .before .before .before .before .pre .0) (sym (c .before .before .before .before .before .kind .ensures) ∙ c .before .before .before .before .match .keys2)))
 
 returns-3 : tie.Need-returns-3
 unfolding stepOf sinOf done
@@ -93,7 +92,7 @@ unfolding stepOf
 returns-6 c =
     let r = c .match .rest in
     let k = c .before .kind .ensures in
-    other-kind _ _ (λ e. r .0 .0 .0 .0 .1 (k ∙ e)) (c .before .before .before .pre .1) (λ e. r .0 .0 .0 .1 (k ∙ e)) (λ e. r .0 .0 .1 (k ∙ e)) (λ e. r .0 .1 (k ∙ e)) (λ e. r .1 (k ∙ e))
+    other-kind _ _ (λ e. r .0 .0 .0 .0 .1 (k ∙ e)) (c .before .before .before .pre .1 .0) (λ e. r .0 .0 .0 .1 (k ∙ e)) (λ e. r .0 .0 .1 (k ∙ e)) (λ e. r .0 .1 (k ∙ e)) (λ e. r .1 (k ∙ e))
 
 pub step-spec : {M : Type 1} → statement M
 step-spec =
@@ -104,7 +103,7 @@ step-spec =
     advance-requires
     address-requires
     byte-requires
-    write-register-requires
+    write-queue-requires
     settle-requires
     sin-requires
     with-inputs-requires
