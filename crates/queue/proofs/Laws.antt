@@ -2,14 +2,19 @@
 -- at place i, what a turn does and what the loop comes to.
 use Prim.Native.Nat.{ℕ, _+_, _≤_, _<_, min}
 use mathlib.Core.Path.{_≡_, refl, sym, ap, _∙_}
-use mathlib.Core.Bool.{Bool, true, false, _&&_, _||_}
+use mathlib.Core.Bool.{Bool, true, false, cond, not, _&&_, _||_}
 use mathlib.Core.List.{List, [], _∷_, _++_, map}
 use lib.ListN.{length, getD, take, drop, set, length-take, length-drop, length-map, drop-of-length-le}
 use lib.Seq.{drop-cons, take-suc, set-at, append-snoc, getD-append-add, getD-drop, getD-take, length-take-le, take-all}
 use native.Mathlib.Numerals.{add-one, one-add}
 use native.Mathlib.Omega.{arith}
+use native.Mathlib.Decide.{decLt}
+use lib.Dec.{ltb, leb, eqb}
+use borrow.Author.Tests.{lt-ltb, le-ltb, le-leb, leb-true, not-true, not-false}
 use Rattle.flag.specs.Flag.{allOf, anyOf}
-use Rattle.queue.specs.Queue.{shifted, contents}
+use Rattle.flag.proofs.Laws.{and-left, and-right}
+use Rattle.queue.specs.declared.ByteQueue.{ByteQueue}
+use Rattle.queue.specs.Queue.{placesPut, countPut, isFull, shifted, contents, putByte}
 
 -- the length of an array of structs, from what owning it tells
 pub length-mapped : {A B : Type 0} (f : A → B) (xs : List A) (n : ℕ) → length (map f xs) ≡ n → length xs ≡ n
@@ -123,3 +128,24 @@ module _ {A : Type 0} {n : ℕ} {xs ys : List A} {i : ℕ} where
       ap (λ (r : List A). set r i z) (shift-at z w)
       ∙ set-at (take i (drop 1 xs)) (getD xs i z) (drop (i + 1) xs) z i (filled w)
       ∙ rw (take-all i (drop 1 xs) m, drop-of-length-le xs k)
+
+-- A put of a byte: a full queue of more than one place keeps its bytes; else the byte has its place.
+
+pub put-kept : (c : ℕ) (q : ByteQueue) (b : ℕ) → (leb c (q .count) && not (eqb c 1)) ≡ true → record { queue = q; full = leb c (q .count) } ≡ putByte c q b
+unfolding putByte placesPut countPut isFull
+put-kept c q b e =
+    let full : c ≤ q .count = leb-true c (q .count) (and-left (leb c (q .count)) (not (eqb c 1)) e) in
+    let more : eqb c 1 ≡ false = not-true (eqb c 1) (and-right (leb c (q .count)) (not (eqb c 1)) e) in
+    simp (le-ltb (q .count) c full, more)
+
+pub put-placed : (c : ℕ) (q : ByteQueue) (b : ℕ) → (leb c (q .count) && not (eqb c 1)) ≡ false →
+    record { queue = record { bytes = set (q .bytes) (cond (ltb (q .count) c) (q .count) 0) b; count = countPut c (q .count) }; full = leb c (q .count) } ≡ putByte c q b
+unfolding putByte placesPut isFull
+put-placed c q b e =
+    elim (decLt (q .count) c) [
+      | yes h ↦ simp (lt-ltb (q .count) c h)
+      | no h ↦
+          let full : c ≤ q .count = omega (arith, h) in
+          let one : eqb c 1 ≡ true = not-false (eqb c 1) (simp (le-leb c (q .count) full) at e) in
+          simp (le-ltb (q .count) c full, one)
+    ]

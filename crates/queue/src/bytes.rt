@@ -5,7 +5,9 @@ use crate::LAST;
 use crate::PLACES;
 ghost use mathlib.Core.Path.{_≡_};
 ghost use Prim.Native.Nat.{_<_, _≤_};
-ghost use Rattle.queue.specs.Queue.{putByte, takeByte, noBytes, shifted, byteRest};
+ghost use mathlib.Core.Bool.{cond};
+ghost use lib.Dec.{ltb};
+ghost use Rattle.queue.specs.Queue.{countPut, putByte, takeByte, noBytes, shifted, byteRest};
 
 // The queue with no bytes.
 pub fn clear() -> ByteQueue
@@ -17,34 +19,39 @@ pub fn clear() -> ByteQueue
     }
 }
 
+// Where the next byte goes: behind the last one, or to the first place of a full queue.
+fn next_place(count: u32, capacity: u32) -> usize
+    requires { ⌜ capacity ≤ 64 ⌝ }
+    ensures { λ r. ⌜ (r ≡ cond (ltb count capacity) count 0) × (r < 64) ⌝ }
+{
+    if count < capacity { count as usize } else { 0 }
+}
+
+// The count after a put.
+fn count_after(count: u32, capacity: u32) -> u32
+    requires { ⌜ capacity ≤ 64 ⌝ }
+    ensures { λ r. ⌜ r ≡ countPut capacity count ⌝ }
+{
+    if count < capacity { count + 1 } else { count }
+}
+
 // The queue of this capacity with b behind the last byte. A full one keeps its bytes, but a queue
-// of one place has its byte replaced.
+// of one place has its byte replaced. There is one store, at a computed place: with a second one at
+// place 0 the compiler copies the queue in two parts.
 pub fn put(q: ByteQueue, capacity: u32, b: u8) -> BytePut
     requires { ⌜ capacity ≤ 64 ⌝ }
     ensures { λ r. ⌜ r ≡ putByte capacity q b ⌝ }
 {
     let mut next = q;
     let count = next.count;
-    if count < capacity {
-        let at = count as usize;
-        next.bytes[at] = b;
-        next.count = count + 1;
-        return BytePut {
-            queue: next,
-            full: false,
-        };
+    let full = capacity <= count;
+    if flag::both(full, capacity != 1) {
+        return BytePut { queue: next, full };
     }
-    if capacity == 1 {
-        next.bytes[0] = b;
-        return BytePut {
-            queue: next,
-            full: true,
-        };
-    }
-    BytePut {
-        queue: next,
-        full: true,
-    }
+    let at = next_place(count, capacity);
+    next.bytes[at] = b;
+    next.count = count_after(count, capacity);
+    BytePut { queue: next, full }
 }
 
 // The bytes one place down, the oldest gone and the last place zero.

@@ -1,31 +1,39 @@
--- The code takes the definition's tests in the definition's order, so each way out has the outcome of each test.
+-- A full queue of more than one place keeps its bytes; else the byte has its place.
+use Rattle.queue.proofs.Laws.{put-kept, put-placed}
+use Prim.Native.Nat.{_-_}
+use mathlib.Core.Path.{sym, _∙_}
 use borrow.Author.Needs.{needs}
-use borrow.Author.Tests.{eq-eqb}
-use Rattle.flag.proofs.Laws.{tests}
-use Rattle.queue.specs.Queue.{putByte, placesPut, countPut, isFull}
 use Rattle.queue.proofs.bytes.put.Statement.{statement}
 use Rattle.queue.proofs.bytes.put.Tie as tie
+use Rattle.flag.proofs.both.Reads as both-reads
+use Rattle.queue.proofs.bytes.count_after.Reads as count-after-reads
+use Rattle.queue.proofs.bytes.next_place.Reads as next-place-reads
+
+both-requires : tie.Need-both-requires
+both-requires c κs = search needs
 
 returns : tie.Need-returns
-unfolding putByte placesPut countPut isFull
-returns c = simp (tests, c .if1 .taken)
+returns c = put-kept _ _ _ (sym (c .before .both .ensures) ∙ c .if1 .taken)
+
+next-place-requires : tie.Need-next-place-requires
+next-place-requires c κs = search needs
+
+element-write-next : tie.Need-element-write-next
+element-write-next c = search needs
+
+count-after-requires : tie.Need-count-after-requires
+count-after-requires c κs = search needs
 
 returns-2 : tie.Need-returns-2
-unfolding putByte placesPut countPut isFull
-returns-2 c = simp (tests, c .before .if1 .left, eq-eqb _ _ (c .if2 .taken))
-
-returns-3 : tie.Need-returns-3
-unfolding putByte placesPut countPut isFull
-returns-3 c = simp (tests, c .before .if1 .left, c .if2 .left)
+returns-2 c = rw (c .count-after .ensures, c .before .next-place .ensures .0) (put-placed _ _ _ (sym (c .before .before .before .both .ensures) ∙ c .before .before .if1 .left))
 
 pub put-spec : {M : Type 1} → statement M
 put-spec =
     tie.close
     (tie.spec
-    (λ c. search needs)
-    (λ c. search needs)
-    (λ c. search needs)
+    both-requires
     returns
-    (λ c. search needs)
-    returns-2
-    returns-3)
+    next-place-requires
+    element-write-next
+    count-after-requires
+    returns-2)
