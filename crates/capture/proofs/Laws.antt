@@ -1,14 +1,14 @@
 -- Replay record by record.
 use Prim.Native.Nat.{ℕ, suc, _+_, _/_, _%_, _^_, _≤_, _<_}
 use mathlib.Core.Path.{_≡_, refl, sym, ap, _∙_}
-use mathlib.Core.Bool.{Bool, true, false, cond, not, and-false}
+use mathlib.Core.Bool.{Bool, true, false, cond, and-false}
 use mathlib.Core.List.{List, [], _∷_}
 use lib.Dec.{leb, eqb}
 use lib.ListN.{length, drop, getD, drop-of-length-le}
 use lib.Seq.{drop-cons}
 use native.Mathlib.Omega.{arith}
-use borrow.Author.Tests.{le-leb, eq-eqb, ne-eqb, eqb-true, not-true, not-false}
-use Rattle.flag.proofs.Laws.{by-test, and-left, and-right}
+use borrow.Author.Tests.{le-leb, eq-eqb, ne-eqb, eqb-true}
+use Rattle.flag.proofs.Laws.{by-test}
 use Rattle.recorder.specs.Record.{kind, count, address, byte, sin, modem, good, isRead}
 use Rattle.device.specs.declared.State.{State}
 use Rattle.device.specs.Ranges.{wellFormed}
@@ -20,7 +20,6 @@ use Rattle.invariant.proofs.Good.{good-of}
 use Rattle.invariant.proofs.Settled.{Kept, settled-same}
 use Rattle.invariant.proofs.Steps.{reset-kept, read-kept, write-kept, sin-kept, modem-kept, ticks-kept}
 use Rattle.capture.specs.declared.Replayed.{Replayed}
-use Rattle.capture.specs.Numbers.{writesNumbers}
 use Rattle.capture.specs.Replay.{agreed, differs, refused, stepOf, modelByte, differing, replayFrom}
 
 -- No field of a record is out of its call's range.
@@ -60,28 +59,19 @@ model-byte s w f = simp (f, address-fits w)
 pub read-stays : (s : State) (w : ℕ) → wellFormed s ≡ true → isRead w ≡ true → readRegister s (address w) .state ≡ s → stepOf s w ≡ s
 read-stays s w f e same = read-step s w e ∙ read-state s w f ∙ ap settled same ∙ settled-same s (good-of s f)
 
--- A write that reaches no queue.
+-- A write's step is the write; where it reaches no queue, only numbers change.
 
-pub is-write : (s : State) (w : ℕ) → writesNumbers s w ≡ true → kind w ≡ 2
-is-write s w e = eqb-true (kind w) 2 (and-left (eqb (kind w) 2) (not (reachesQueue s (address w))) e)
-
-pub reaches-none : (s : State) (w : ℕ) → writesNumbers s w ≡ true → reachesQueue s (address w) ≡ false
-reaches-none s w e = not-true (reachesQueue s (address w)) (and-right (eqb (kind w) 2) (not (reachesQueue s (address w))) e)
-
-pub write-no-read : (s : State) (w : ℕ) → writesNumbers s w ≡ true → isRead w ≡ false
-write-no-read s w h = ne-eqb (kind w) 1 (λ e. absurd (omega (arith, e, is-write s w h)))
-
-pub reaches-some : (s : State) (w : ℕ) → writesNumbers s w ≡ false → kind w ≡ 2 → reachesQueue s (address w) ≡ true
-reaches-some s w e k = not-false (reachesQueue s (address w)) (simp (eq-eqb (kind w) 2 k) at e)
+pub write-no-read : (w : ℕ) → kind w ≡ 2 → isRead w ≡ false
+write-no-read w k = ne-eqb (kind w) 1 (λ e. absurd (omega (arith, e, k)))
 
 pub write-step : (s : State) (w : ℕ) → wellFormed s ≡ true → kind w ≡ 2 → stepOf s w ≡ settled (writeRegister s (address w) (byte w))
 unfolding stepOf writeOf done
 write-step s w f k = simp (k, f, address-fits w)
 
-pub numbers-step : (s : State) (w : ℕ) → wellFormed s ≡ true → writesNumbers s w ≡ true → withNumbers s (stepOf s w) ≡ stepOf s w
-numbers-step s w f e =
-    let step = write-step s w f (is-write s w e) in
-    let apart = settled-numbers s (writeRegister s (address w) (byte w)) (write-parts s (address w) (byte w) (reaches-none s w e)) in
+pub numbers-step : (s : State) (w : ℕ) → wellFormed s ≡ true → kind w ≡ 2 → reachesQueue s (address w) ≡ false → withNumbers s (stepOf s w) ≡ stepOf s w
+numbers-step s w f k e =
+    let step = write-step s w f k in
+    let apart = settled-numbers s (writeRegister s (address w) (byte w)) (write-parts s (address w) (byte w) e) in
     ap (λ (t : State). withNumbers s t) step ∙ sym apart ∙ sym step
 
 -- A record that is no read does not differ, nor a read that saw the model's byte; any other read does.

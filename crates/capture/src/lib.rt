@@ -96,7 +96,12 @@ fn replay_records(s: State, records: &[u32]) -> Replayed
         if !record::good(w) {
             break i;
         }
-        if step::writes_numbers(t, w) {
+        if record::kind(w) == record::WRITE {
+            if registers::reaches_queue(t, record::address(w)) {
+                t = step::write_queue(t, w);
+                i += 1;
+                continue;
+            }
             let n = step::write_numbers(t, w);
             let registers = n.registers;
             let baud = n.baud;
@@ -117,11 +122,9 @@ fn replay_records(s: State, records: &[u32]) -> Replayed
         if model != record::byte(w) {
             break i;
         }
-        if !registers::read_changes(t, a) {
-            i += 1;
-            continue;
+        if registers::read_changes(t, a) {
+            t = step::after_read(t, a);
         }
-        t = step::after_read(t, a);
         i += 1;
     };
     if records.len() <= place {

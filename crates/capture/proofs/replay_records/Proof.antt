@@ -5,9 +5,9 @@ use Rattle.capture.proofs.Laws.{Replaying, replay-turns, replay-agrees,
 use Rattle.registers.proofs.Laws.{withNumbers}
 use Rattle.invariant.proofs.Good.{good-of}
 use Rattle.device.specs.Calls.{readRegister, readOf}
-use Rattle.capture.specs.Numbers.{writesNumbers}
+use Rattle.registers.specs.Reaching.{reachesQueue}
 use Rattle.capture.specs.Replay.{refused, differs, stepOf, modelByte, differing}
-use Rattle.recorder.specs.Record.{address, good, isRead}
+use Rattle.recorder.specs.Record.{kind, address, good, isRead}
 use Rattle.device.specs.declared.State.{State}
 use mathlib.Core.Path.{_≡_, refl, sym, ap, subst, _∙_}
 use mathlib.Core.Logic.{⊎-elim}
@@ -23,11 +23,12 @@ use Rattle.capture.proofs.refused.Reads as refused-reads
 use Rattle.capture.proofs.step.after_read.Reads as after-read-reads
 use Rattle.capture.proofs.step.step.Reads as step-reads
 use Rattle.capture.proofs.step.write_numbers.Reads as write-numbers-reads
-use Rattle.capture.proofs.step.writes_numbers.Reads as writes-numbers-reads
+use Rattle.capture.proofs.step.write_queue.Reads as write-queue-reads
 use Rattle.recorder.proofs.record.address.Reads as address-reads
 use Rattle.recorder.proofs.record.byte.Reads as byte-reads
 use Rattle.recorder.proofs.record.good.Reads as good-reads
 use Rattle.recorder.proofs.record.kind.Reads as kind-reads
+use Rattle.registers.proofs.reaches_queue.Reads as reaches-queue-reads
 use Rattle.registers.proofs.read_changes.Reads as read-changes-reads
 use Rattle.registers.proofs.value.Reads as value-reads
 
@@ -49,11 +50,20 @@ shared-slice-read-w c = search needs
 good-requires : tie.Need-good-requires Inv-loop μ-loop
 good-requires c κs = search needs
 
-writes-numbers-requires : tie.Need-writes-numbers-requires Inv-loop μ-loop
-writes-numbers-requires c κs = search needs
+kind-requires : tie.Need-kind-requires Inv-loop μ-loop
+kind-requires c κs = search needs
 
-write-numbers-requires : tie.Need-write-numbers-requires Inv-loop μ-loop
-write-numbers-requires c κs = (c .before .before .before .before .before .before .loop .inv .kept .well, sym (c .before .writes-numbers .ensures) ∙ c .if3 .taken)
+address-requires : tie.Need-address-requires Inv-loop μ-loop
+address-requires c κs = search needs
+
+reaches-queue-requires : tie.Need-reaches-queue-requires Inv-loop μ-loop
+reaches-queue-requires c κs = search needs
+
+write-queue-requires : tie.Need-write-queue-requires Inv-loop μ-loop
+write-queue-requires c κs =
+    let t = c .before .before .before .before .before .before .before .before .before .loop .t in
+    let reaches = ap (λ (a : ℕ). reachesQueue t a) (sym (c .before .before .address .ensures)) ∙ sym (c .before .reaches-queue .ensures) ∙ c .if4 .taken in
+    (c .before .before .before .before .before .before .before .before .before .loop .inv .kept .well, (sym (c .before .before .before .before .kind .ensures) ∙ c .before .before .before .if3 .taken, reaches))
 
 add-i : tie.Need-add-i Inv-loop μ-loop
 add-i c = omega (arith, c .before .before .before .before .before .before .before .before .before .if1 .left, c .before .before .before .before .before .before .before .before .before .before .before .before .good .1 .0 .0)
@@ -62,41 +72,67 @@ loop-less : tie.Need-loop-less Inv-loop μ-loop
 loop-less c = omega (arith, c .before .before .before .before .before .before .before .before .before .if1 .left)
 
 loop-again : tie.Need-loop-again Inv-loop μ-loop
-loop-again c = let w = getD (c .before .before .before .before .before .before .before .before .before .before .before .before .args .records .now) (c .before .before .before .before .before .before .before .before .before .before .loop .i) 0 in
-    let t = c .before .before .before .before .before .before .before .before .before .before .loop .t in
-    let writes : writesNumbers t w ≡ true = sym (c .before .before .before .before .before .writes-numbers .ensures) ∙ c .before .before .before .before .if3 .taken in
-    let next : withNumbers t (c .before .before .before .write-numbers .result) ≡ stepOf t w =
-    ap (λ (n : State). withNumbers t n) (c .before .before .before .write-numbers .ensures) ∙ numbers-step t w (c .before .before .before .before .before .before .before .before .before .before .loop .inv .kept .well) writes
-    in
-    subst (λ (u : State). Replaying (c .before .before .before .before .before .before .before .before .before .before .before .before .args .s) (c .before .before .before .before .before .before .before .before .before .before .before .before .args .records .now) u (c .before .before .before .before .before .before .before .before .before .before .loop .i + 1)) (sym next)
+loop-again c =
+    let w = getD (c .before .before .before .before .before .before .before .before .before .before .before .before .args .records .now) (c .before .before .before .before .before .before .before .before .before .before .loop .i) 0 in
+    rw (c .write-queue .ensures)
     (replay-turns (c .before .before .before .before .before .before .before .before .before .before .loop .inv) (omega (arith, c .before .before .before .before .before .before .before .before .before .if1 .left))
     (sym (c .before .before .before .before .before .before .before .good2 .ensures) ∙ not-false _ (c .before .before .before .before .before .before .if2 .left))
-    (no-read t w (write-no-read t w writes)))
+    (no-read _ w (write-no-read w (sym (c .before .before .before .before .before .kind .ensures) ∙ c .before .before .before .before .if3 .taken))))
 
-kind-requires : tie.Need-kind-requires Inv-loop μ-loop
-kind-requires c κs = search needs
-
-step-requires : tie.Need-step-requires Inv-loop μ-loop
-step-requires c κs = (c .before .before .before .before .before .before .before .before .loop .inv .kept .well, (ne-eqb _ _ (λ e. c .if4 .taken (c .before .kind .ensures ∙ e)), sym (c .before .before .before .writes-numbers .ensures) ∙ c .before .before .if3 .left))
+write-numbers-requires : tie.Need-write-numbers-requires Inv-loop μ-loop
+write-numbers-requires c κs =
+    let t = c .before .before .before .before .before .before .before .before .before .loop .t in
+    let reaches = ap (λ (a : ℕ). reachesQueue t a) (sym (c .before .before .address .ensures)) ∙ sym (c .before .reaches-queue .ensures) ∙ c .if4 .left in
+    (c .before .before .before .before .before .before .before .before .before .loop .inv .kept .well, (sym (c .before .before .before .before .kind .ensures) ∙ c .before .before .before .if3 .taken, reaches))
 
 add-i-2 : tie.Need-add-i-2 Inv-loop μ-loop
-add-i-2 c = omega (arith, c .before .before .before .before .before .before .before .before .if1 .left, c .before .before .before .before .before .before .before .before .before .before .before .good .1 .0 .0)
+add-i-2 c = omega (arith, c .before .before .before .before .before .before .before .before .before .before .before .before .if1 .left, c .before .before .before .before .before .before .before .before .before .before .before .before .before .before .before .good .1 .0 .0)
 
 loop-less-2 : tie.Need-loop-less-2 Inv-loop μ-loop
-loop-less-2 c = omega (arith, c .before .before .before .before .before .before .before .before .if1 .left)
+loop-less-2 c = omega (arith, c .before .before .before .before .before .before .before .before .before .before .before .before .if1 .left)
 
 loop-again-2 : tie.Need-loop-again-2 Inv-loop μ-loop
-loop-again-2 c = let w = getD (c .before .before .before .before .before .before .before .before .before .before .before .args .records .now) (c .before .before .before .before .before .before .before .before .before .loop .i) 0 in
+loop-again-2 c =
+    let w = getD (c .before .before .before .before .before .before .before .before .before .before .before .before .before .before .before .args .records .now) (c .before .before .before .before .before .before .before .before .before .before .before .before .before .loop .i) 0 in
+    let t = c .before .before .before .before .before .before .before .before .before .before .before .before .before .loop .t in
+    let write : kind w ≡ 2 = sym (c .before .before .before .before .before .before .before .before .kind .ensures) ∙ c .before .before .before .before .before .before .before .if3 .taken in
+    let reaches : reachesQueue t (address w) ≡ false =
+    ap (λ (a : ℕ). reachesQueue t a) (sym (c .before .before .before .before .before .before .address .ensures)) ∙ sym (c .before .before .before .before .before .reaches-queue .ensures) ∙ c .before .before .before .before .if4 .left
+    in
+    let next : withNumbers t (c .before .before .before .write-numbers .result) ≡ stepOf t w =
+    ap (λ (n : State). withNumbers t n) (c .before .before .before .write-numbers .ensures) ∙ numbers-step t w (c .before .before .before .before .before .before .before .before .before .before .before .before .before .loop .inv .kept .well) write reaches
+    in
+    subst (λ (u : State). Replaying (c .before .before .before .before .before .before .before .before .before .before .before .before .before .before .before .args .s) (c .before .before .before .before .before .before .before .before .before .before .before .before .before .before .before .args .records .now) u (c .before .before .before .before .before .before .before .before .before .before .before .before .before .loop .i + 1)) (sym next)
+    (replay-turns (c .before .before .before .before .before .before .before .before .before .before .before .before .before .loop .inv) (omega (arith, c .before .before .before .before .before .before .before .before .before .before .before .before .if1 .left))
+    (sym (c .before .before .before .before .before .before .before .before .before .before .good2 .ensures) ∙ not-false _ (c .before .before .before .before .before .before .before .before .before .if2 .left))
+    (no-read t w (write-no-read w write)))
+
+kind-requires-2 : tie.Need-kind-requires-2 Inv-loop μ-loop
+kind-requires-2 c κs = search needs
+
+step-requires : tie.Need-step-requires Inv-loop μ-loop
+step-requires c κs = (c .before .before .before .before .before .before .before .before .loop .inv .kept .well, (ne-eqb _ _ (λ e. c .if5 .taken (c .before .kind2 .ensures ∙ e)), λ e. c .before .before .if3 .left (c .before .before .before .kind .ensures ∙ e)))
+
+add-i-3 : tie.Need-add-i-3 Inv-loop μ-loop
+add-i-3 c = omega (arith, c .before .before .before .before .before .before .before .before .if1 .left, c .before .before .before .before .before .before .before .before .before .before .before .good .1 .0 .0)
+
+loop-less-3 : tie.Need-loop-less-3 Inv-loop μ-loop
+loop-less-3 c = omega (arith, c .before .before .before .before .before .before .before .before .if1 .left)
+
+loop-again-3 : tie.Need-loop-again-3 Inv-loop μ-loop
+loop-again-3 c =
+    let w = getD (c .before .before .before .before .before .before .before .before .before .before .before .args .records .now) (c .before .before .before .before .before .before .before .before .before .loop .i) 0 in
     rw (c .step .ensures)
     (replay-turns (c .before .before .before .before .before .before .before .before .before .loop .inv) (omega (arith, c .before .before .before .before .before .before .before .before .if1 .left))
     (sym (c .before .before .before .before .before .before .good2 .ensures) ∙ not-false _ (c .before .before .before .before .before .if2 .left))
-    (no-read _ w (ne-eqb _ _ (λ e. c .before .if4 .taken (c .before .before .kind .ensures ∙ e)))))
+    (no-read _ w (ne-eqb _ _ (λ e. c .before .if5 .taken (c .before .before .kind2 .ensures ∙ e)))))
 
-address-requires : tie.Need-address-requires Inv-loop μ-loop
-address-requires c κs = search needs
+address-requires-2 : tie.Need-address-requires-2 Inv-loop μ-loop
+address-requires-2 c κs = search needs
 
 value-requires : tie.Need-value-requires Inv-loop μ-loop
-value-requires c κs = let g = good-of (c .before .before .before .before .before .before .before .before .before .loop .t) (c .before .before .before .before .before .before .before .before .before .loop .inv .kept .well) in
+value-requires c κs =
+    let g = good-of (c .before .before .before .before .before .before .before .before .before .loop .t) (c .before .before .before .before .before .before .before .before .before .loop .inv .kept .well) in
     record { divisor = g .registers .divisor-most; changes = g .latches .changes-most; modem = g .settings .modem-most }
 
 byte-requires : tie.Need-byte-requires Inv-loop μ-loop
@@ -105,53 +141,35 @@ byte-requires c κs = search needs
 read-changes-requires : tie.Need-read-changes-requires Inv-loop μ-loop
 read-changes-requires c κs = search needs
 
-add-i-3 : tie.Need-add-i-3 Inv-loop μ-loop
-add-i-3 c = omega (arith, c .before .before .before .before .before .before .before .before .before .before .before .before .before .if1 .left, c .before .before .before .before .before .before .before .before .before .before .before .before .before .before .before .before .good .1 .0 .0)
+after-read-requires : tie.Need-after-read-requires Inv-loop μ-loop
+after-read-requires c κs = (c .before .before .before .before .before .before .before .before .before .before .before .before .before .before .loop .inv .kept .well, rw (c .before .before .before .before .before .address2 .ensures) (address-most (getD (c .before .before .before .before .before .before .before .before .before .before .before .before .before .before .before .before .args .records .now) (c .before .before .before .before .before .before .before .before .before .before .before .before .before .before .loop .i) 0)))
 
-loop-less-3 : tie.Need-loop-less-3 Inv-loop μ-loop
-loop-less-3 c = omega (arith, c .before .before .before .before .before .before .before .before .before .before .before .before .before .if1 .left)
+add-i-4 : tie.Need-add-i-4 Inv-loop μ-loop
+add-i-4 c = omega (arith, c .before .before .before .before .before .before .before .before .before .before .before .before .before .if1 .left, c .before .before .before .before .before .before .before .before .before .before .before .before .before .before .before .before .good .1 .0 .0)
 
-loop-again-3 : tie.Need-loop-again-3 Inv-loop μ-loop
-loop-again-3 c = let w = getD (c .before .before .before .before .before .before .before .before .before .before .before .before .before .before .before .before .args .records .now) (c .before .before .before .before .before .before .before .before .before .before .before .before .before .before .loop .i) 0 in
+loop-less-4 : tie.Need-loop-less-4 Inv-loop μ-loop
+loop-less-4 c = omega (arith, c .before .before .before .before .before .before .before .before .before .before .before .before .before .if1 .left)
+
+loop-again-4 : tie.Need-loop-again-4 Inv-loop μ-loop
+loop-again-4 c =
+    let w = getD (c .before .before .before .before .before .before .before .before .before .before .before .before .before .before .before .before .args .records .now) (c .before .before .before .before .before .before .before .before .before .before .before .before .before .before .loop .i) 0 in
     let t = c .before .before .before .before .before .before .before .before .before .before .before .before .before .before .loop .t in
     let well = c .before .before .before .before .before .before .before .before .before .before .before .before .before .before .loop .inv .kept .well in
-    let at = c .before .before .before .before .before .address .ensures in
-    let is-read : isRead w ≡ true = eq-eqb _ _ (sym (c .before .before .before .before .before .before .before .kind .ensures) ∙ c .before .before .before .before .before .before .if4 .left) in
+    let at = c .before .before .before .before .before .address2 .ensures in
+    let is-read : isRead w ≡ true = eq-eqb _ _ (sym (c .before .before .before .before .before .before .before .kind2 .ensures) ∙ c .before .before .before .before .before .before .if5 .left) in
     let model : c .before .before .before .before .value .result ≡ modelByte t w =
     c .before .before .before .before .value .ensures ∙ ap (λ (a : ℕ). readRegister t a .byte) at ∙ sym (model-byte t w well)
     in
-    let stays : readRegister t (address w) .state ≡ t =
-    ap (λ (a : ℕ). readRegister t a .state) (sym at) ∙ c .before .read-changes .ensures (not-true _ (c .if6 .taken))
+    let next : c .if7 .t ≡ stepOf t w =
+    ⊎-elim
+    (λ x. x .2 ∙ x .1 .ensures ∙ ap (λ (a : ℕ). readOf t a .state) at ∙ sym (read-step t w is-read))
+    (λ x. x .1 ∙ sym (read-stays t w well is-read (ap (λ (a : ℕ). readRegister t a .state) (sym at) ∙ c .before .read-changes .ensures (x .0 .left))))
+    (c .if7 .came)
     in
-    subst (λ (u : State). Replaying (c .before .before .before .before .before .before .before .before .before .before .before .before .before .before .before .before .args .s) (c .before .before .before .before .before .before .before .before .before .before .before .before .before .before .before .before .args .records .now) u (c .before .before .before .before .before .before .before .before .before .before .before .before .before .before .loop .i + 1)) (read-stays t w well is-read stays)
+    subst (λ (u : State). Replaying (c .before .before .before .before .before .before .before .before .before .before .before .before .before .before .before .before .args .s) (c .before .before .before .before .before .before .before .before .before .before .before .before .before .before .before .before .args .records .now) u (c .before .before .before .before .before .before .before .before .before .before .before .before .before .before .loop .i + 1)) (sym next)
     (replay-turns (c .before .before .before .before .before .before .before .before .before .before .before .before .before .before .loop .inv) (omega (arith, c .before .before .before .before .before .before .before .before .before .before .before .before .before .if1 .left))
     (sym (c .before .before .before .before .before .before .before .before .before .before .before .good2 .ensures) ∙ not-false _ (c .before .before .before .before .before .before .before .before .before .before .if2 .left))
-    (same-byte t w (sym model ∙ c .before .before .if5 .left ∙ c .before .before .before .byte .ensures)))
-
-after-read-requires : tie.Need-after-read-requires Inv-loop μ-loop
-after-read-requires c κs = (c .before .before .before .before .before .before .before .before .before .before .before .before .before .before .loop .inv .kept .well, rw (c .before .before .before .before .before .address .ensures) (address-most (getD (c .before .before .before .before .before .before .before .before .before .before .before .before .before .before .before .before .args .records .now) (c .before .before .before .before .before .before .before .before .before .before .before .before .before .before .loop .i) 0)))
-
-add-i-4 : tie.Need-add-i-4 Inv-loop μ-loop
-add-i-4 c = omega (arith, c .before .before .before .before .before .before .before .before .before .before .before .before .before .before .if1 .left, c .before .before .before .before .before .before .before .before .before .before .before .before .before .before .before .before .before .good .1 .0 .0)
-
-loop-less-4 : tie.Need-loop-less-4 Inv-loop μ-loop
-loop-less-4 c = omega (arith, c .before .before .before .before .before .before .before .before .before .before .before .before .before .before .if1 .left)
-
-loop-again-4 : tie.Need-loop-again-4 Inv-loop μ-loop
-loop-again-4 c = let w = getD (c .before .before .before .before .before .before .before .before .before .before .before .before .before .before .before .before .before .args .records .now) (c .before .before .before .before .before .before .before .before .before .before .before .before .before .before .before .loop .i) 0 in
-    let t = c .before .before .before .before .before .before .before .before .before .before .before .before .before .before .before .loop .t in
-    let at = c .before .before .before .before .before .before .address .ensures in
-    let is-read : isRead w ≡ true = eq-eqb _ _ (sym (c .before .before .before .before .before .before .before .before .kind .ensures) ∙ c .before .before .before .before .before .before .before .if4 .left) in
-    let model : c .before .before .before .before .before .value .result ≡ modelByte t w =
-    c .before .before .before .before .before .value .ensures ∙ ap (λ (a : ℕ). readRegister t a .byte) at ∙ sym (model-byte t w (c .before .before .before .before .before .before .before .before .before .before .before .before .before .before .before .loop .inv .kept .well))
-    in
-    let next : c .after-read .result ≡ stepOf t w =
-    c .after-read .ensures ∙ ap (λ (a : ℕ). readOf t a .state) at ∙ sym (read-step t w is-read)
-    in
-    rw next
-    (replay-turns (c .before .before .before .before .before .before .before .before .before .before .before .before .before .before .before .loop .inv) (omega (arith, c .before .before .before .before .before .before .before .before .before .before .before .before .before .before .if1 .left))
-    (sym (c .before .before .before .before .before .before .before .before .before .before .before .before .good2 .ensures) ∙ not-false _ (c .before .before .before .before .before .before .before .before .before .before .before .if2 .left))
-    (same-byte t w (sym model ∙ c .before .before .before .if5 .left ∙ c .before .before .before .before .byte .ensures)))
+    (same-byte t w (sym model ∙ c .before .before .if6 .left ∙ c .before .before .before .byte .ensures)))
 
 -- The break yields the place.
 same : (c : tie.Joined1 Inv-loop μ-loop) → c .if1 .place ≡ c .before .loop .i
@@ -191,8 +209,8 @@ returns-2 : tie.Need-returns-2 Inv-loop μ-loop
 returns-2 c = let e = same (c .before .before .before .before .before .before) in
     let records = c .before .before .before .before .before .before .before .before .before .args .records .now in
     c .refused .ensures ∙ ap (refused 8 (c .before .before .before .before .before .before .before .loop .t)) e
-    ∙ replay-refuses (c .before .before .before .before .before .before .before .loop .inv) (omega (arith, c .before .before .before .before .before .if7 .left, e))
-    (ap (λ (j : ℕ). good (getD records j 0)) (sym e) ∙ sym (c .before .before .good3 .ensures) ∙ not-true _ (c .before .if8 .taken))
+    ∙ replay-refuses (c .before .before .before .before .before .before .before .loop .inv) (omega (arith, c .before .before .before .before .before .if8 .left, e))
+    (ap (λ (j : ℕ). good (getD records j 0)) (sym e) ∙ sym (c .before .before .good3 .ensures) ∙ not-true _ (c .before .if9 .taken))
 
 byte-requires-2 : tie.Need-byte-requires-2 Inv-loop μ-loop
 byte-requires-2 c κs = search needs
@@ -202,8 +220,8 @@ returns-3 c = let e = same (c .before .before .before .before .before .before) i
     let i = c .before .before .before .before .before .before .before .loop .i in
     let t = c .before .before .before .before .before .before .before .loop .t in
     let records = c .before .before .before .before .before .before .before .before .before .args .records .now in
-    let inside : i < length records = omega (arith, c .before .before .before .before .before .if7 .left, e) in
-    let g : good (getD records i 0) ≡ true = ap (λ (j : ℕ). good (getD records j 0)) (sym e) ∙ sym (c .before .before .good3 .ensures) ∙ not-false _ (c .before .if8 .left) in
+    let inside : i < length records = omega (arith, c .before .before .before .before .before .if8 .left, e) in
+    let g : good (getD records i 0) ≡ true = ap (λ (j : ℕ). good (getD records j 0)) (sym e) ∙ sym (c .before .before .good3 .ensures) ∙ not-false _ (c .before .if9 .left) in
     let d = differed (c .before .before .before .before .before .before) inside g in
     rw (e, c .byte2 .ensures, e, d .1) (replay-differs (c .before .before .before .before .before .before .before .loop .inv) inside g (d .0))
 
@@ -217,23 +235,26 @@ replay-records-spec =
     mul-w
     shared-slice-read-w
     good-requires
-    writes-numbers-requires
-    write-numbers-requires
+    kind-requires
+    address-requires
+    reaches-queue-requires
+    write-queue-requires
     add-i
     loop-less
     loop-again
-    kind-requires
-    step-requires
+    write-numbers-requires
     add-i-2
     loop-less-2
     loop-again-2
-    address-requires
-    value-requires
-    byte-requires
-    read-changes-requires
+    kind-requires-2
+    step-requires
     add-i-3
     loop-less-3
     loop-again-3
+    address-requires-2
+    value-requires
+    byte-requires
+    read-changes-requires
     after-read-requires
     add-i-4
     loop-less-4

@@ -1,5 +1,5 @@
 -- The write's state on a well-formed state.
-use Rattle.capture.proofs.Laws.{reaches-none, write-step, is-write}
+use Rattle.capture.proofs.Laws.{write-step}
 use Prim.Native.Nat.{_-_}
 use mathlib.Core.Path.{sym}
 use borrow.Author.Needs.{needs}
@@ -17,13 +17,13 @@ byte-requires : tie.Need-byte-requires
 byte-requires c κs = search needs
 
 write-numbers-requires : tie.Need-write-numbers-requires
-write-numbers-requires c κs = rw (c .before .address .ensures) (reaches-none (c .before .before .args .s) (c .before .before .args .w) (c .before .before .pre .1))
+write-numbers-requires c κs = rw (c .before .address .ensures) (c .before .before .pre .1 .1)
 
 settle-requires : tie.Need-settle-requires
 settle-requires c κs = search needs
 
 returns : tie.Need-returns
-returns c = rw (c .settle .ensures, c .before .write-numbers .ensures, c .before .before .byte .ensures, c .before .before .before .address .ensures) (sym (write-step (c .before .before .before .before .args .s) (c .before .before .before .before .args .w) (c .before .before .before .before .pre .0) (is-write (c .before .before .before .before .args .s) (c .before .before .before .before .args .w) (c .before .before .before .before .pre .1))))
+returns c = rw (c .settle .ensures, c .before .write-numbers .ensures, c .before .before .byte .ensures, c .before .before .before .address .ensures) (sym (write-step (c .before .before .before .before .args .s) (c .before .before .before .before .args .w) (c .before .before .before .before .pre .0) (c .before .before .before .before .pre .1 .0)))
 
 pub write-numbers-spec : {M : Type 1} → statement M
 write-numbers-spec =
