@@ -8,10 +8,15 @@ use Rattle.device.specs.declared.Looked.{Looked}
 use Rattle.device.specs.declared.Forecasted.{Forecasted}
 use Rattle.device.specs.declared.Leveled.{Leveled}
 use Rattle.device.specs.declared.Ran.{Ran}
+use Rattle.export.specs.declared.Replay.{Replay}
 
 -- the number in each of four bytes
 abbrev pub fourTimes : ℕ → ℕ
 fourTimes n = 16843009 * n
+
+-- the number in each of eight bytes
+abbrev pub eightTimes : ℕ → ℕ
+eightTimes n = 72340172838076673 * n
 
 abbrev pub stateSpecimen : State
 stateSpecimen =
@@ -44,3 +49,7 @@ leveledSpecimen = record { number = 34; level = 35 }
 
 abbrev pub ranSpecimen : Ran
 ranSpecimen = record { number = 34; used = fourTimes 35; state = stateSpecimen }
+
+abbrev pub replaySpecimen : Replay
+replaySpecimen =
+    record { values = record { number = 34; seen = 35; model = 42; place = eightTimes 43 }; state = stateSpecimen }

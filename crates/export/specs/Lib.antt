@@ -1,2 +1,3 @@
--- The layout of the structs.
+-- The layout of the structs, and what a replay answers.
 pub mod Layout
+pub mod Replay

@@ -1,6 +1,8 @@
 // The layout of the structs, as this library has it, for a client to hold its own declarations
 // against: the size of each struct, and a specimen of each in which every byte of a field is the
 // field's number in the order of declaration. The place of each field stands in the specimen's bytes.
+use crate::Replay;
+use capture::Values;
 use device::Answer;
 use device::Baud;
 use device::FifoControl;
@@ -19,7 +21,7 @@ use queue::ByteQueue;
 use queue::Entry;
 use queue::EntryQueue;
 ghost use mathlib.Core.Path.{_≡_};
-ghost use Rattle.export.specs.Layout.{stateSpecimen, outputsSpecimen, answerSpecimen, lookedSpecimen, forecastedSpecimen, leveledSpecimen, ranSpecimen};
+ghost use Rattle.export.specs.Layout.{stateSpecimen, outputsSpecimen, answerSpecimen, lookedSpecimen, forecastedSpecimen, leveledSpecimen, ranSpecimen, replaySpecimen};
 
 #[no_mangle]
 pub extern "C" fn uart_size_of_state() -> u32
@@ -61,6 +63,13 @@ pub extern "C" fn uart_size_of_ran() -> u32
     ensures { λ r. ⌜ r ≡ 384 ⌝ }
 {
     384
+}
+
+#[no_mangle]
+pub extern "C" fn uart_size_of_replay() -> u32
+    ensures { λ r. ⌜ r ≡ 392 ⌝ }
+{
+    392
 }
 
 // The state with fields 1..33.
@@ -138,7 +147,7 @@ fn outputs() -> Outputs
 }
 
 // The other structs: the number answered is field 34; the byte, the ticks, the level and the ticks
-// used are field 35.
+// used are field 35. A replay's byte seen is field 35, the model's 42, the place 43.
 #[no_mangle]
 pub extern "C" fn uart_specimen_answer() -> Answer
     ensures { λ r. ⌜ r ≡ answerSpecimen ⌝ }
@@ -188,6 +197,21 @@ pub extern "C" fn uart_specimen_ran() -> Ran
     Ran {
         number: 34,
         used: 0x23232323,
+        state: uart_specimen_state(),
+    }
+}
+
+#[no_mangle]
+pub extern "C" fn uart_specimen_replay() -> Replay
+    ensures { λ r. ⌜ r ≡ replaySpecimen ⌝ }
+{
+    Replay {
+        values: Values {
+            number: 34,
+            seen: 35,
+            model: 42,
+            place: 0x2b2b2b2b2b2b2b2b,
+        },
         state: uart_specimen_state(),
     }
 }

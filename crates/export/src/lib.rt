@@ -1,8 +1,10 @@
 // The calls for programs in C, Rust and other languages, under plain names: `rt staticlib export`
-// makes the library that they link. The structs go by value, and each call has the contract of the
-// call of `uart` that it hands on. clients/uart.h declares the same for C.
+// makes the library that they link. The structs go by value, a run of records as its address and
+// length, and each call has the contract of the call of `uart` or `capture` that it hands on.
+// clients/uart.h declares the same for C.
 pub mod layout;
 
+use capture::Values;
 use device::Answer;
 use device::Forecasted;
 use device::Leveled;
@@ -15,6 +17,15 @@ ghost use Rattle.device.specs.State.{freshOf};
 ghost use Rattle.device.specs.Calls.{resetOf, readOf, writeOf, sinOf, modemOf, tickOf, ticksOf, ticksAnswer, pinsOf};
 ghost use Rattle.device.specs.Transmitter.{line};
 ghost use Rattle.device.specs.Forecast.{forecastOf, levelOf, runOf, Foretold, StopsInTime};
+ghost use Rattle.capture.specs.Replay.{replayOf, Agrees};
+ghost use Rattle.export.specs.Replay.{replayAnswer};
+
+// What a replay answers: the number, the place and both bytes, and the state in which it ended.
+#[repr(C)]
+pub struct Replay {
+    pub values: Values,
+    pub state: State,
+}
 
 // The fresh state.
 #[no_mangle]
@@ -114,4 +125,17 @@ pub extern "C" fn uart_run(s: State, n: u32) -> Ran
     ensures in_time { λ r. ⌜ (r .number ≡ 0 → StopsInTime s n (r .used)) ⌝ }
 {
     uart::run(s, n)
+}
+
+// A replay of records of a version: number 0 and both bytes the same where it agreed.
+#[no_mangle]
+pub extern "C" fn uart_replay(s: State, version: u32, records: &[u32]) -> Replay
+    ensures outcome { λ r. ⌜ r ≡ replayAnswer (replayOf version s (now (records .entry))) ⌝ }
+    ensures agreed { λ r. ⌜ (r .values .number ≡ 0 → r .values .seen ≡ r .values .model → Agrees s (now (records .entry)) (r .state)) ⌝ }
+{
+    let a = capture::replay(s, version, records);
+    let outcome = a.outcome;
+    let values = capture::values_of(outcome);
+    let state = a.state;
+    Replay { values, state }
 }

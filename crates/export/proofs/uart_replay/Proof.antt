@@ -1,0 +1,22 @@
+-- The outcome's values and the state are those of the replay; from the values follows whether it agreed.
+use Rattle.export.proofs.Agreed.{Says, values-say}
+use Rattle.export.specs.Replay.{replayAnswer}
+use mathlib.Core.Path.{ap}
+use borrow.Author.Needs.{needs}
+use Rattle.export.proofs.uart_replay.Statement.{statement}
+use Rattle.export.proofs.uart_replay.Tie as tie
+
+replay-requires : tie.Need-replay-requires
+replay-requires c κs = search needs
+
+values-of-requires : tie.Need-values-of-requires
+values-of-requires c κs = search needs
+
+returns : tie.Need-returns
+returns c =
+    let replayed = c .before .before .replay .ensures in
+    let says : Says (c .before .before .replay .result .outcome) = rw (replayed .0) (values-say _ _ _) in
+    rw (c .before .values-of .ensures) (ap replayAnswer (replayed .0), λ z e. replayed .1 (says z e))
+
+pub uart-replay-spec : {M : Type 1} → statement M
+uart-replay-spec = tie.close (tie.spec replay-requires values-of-requires returns)
