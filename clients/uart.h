@@ -2,12 +2,14 @@
  * One TL16C750 UART with its bus, serial line, modem pins and clock.
  *
  * Each call takes the state by value and hands back the next one; nothing is kept between calls.
- * A call that is refused (number above 0) hands its state back as it was, and zeros otherwise.
+ * A call that is refused (number above 0) hands its state back as it was, and zeros otherwise; of a
+ * replay see below.
  *
  * Every field is an unsigned number, so every bit pattern of a state is a value: it is well formed
  * or it is refused with UART_MALFORMED. So whatever memory a caller hands in, every call ends and
- * answers by number; no caller has to look first. Bytes between fields are not looked at, and come
- * back as anything.
+ * answers by number; no caller has to look first. Only the records of a replay are lent, by address:
+ * as many words as it says must stand there, whatever they are. Bytes between fields are not looked
+ * at, and come back as anything.
  *
  * Link with target/staticlib/libexport.a, made by `rt staticlib export`.
  */
@@ -26,11 +28,14 @@ extern "C" {
 
 /* The numbers answered; where two apply, the lower. */
 #define UART_DONE 0
-#define UART_MALFORMED 1   /* the state is not well formed */
-#define UART_BAD_ADDRESS 2 /* a register address above 7 */
-#define UART_BAD_LEVEL 3   /* SIN above 1, or modem pins above 15 */
-#define UART_NO_CLOCK 4    /* forecast, level: work left and divisor 0 */
-#define UART_HELD_BACK 5   /* forecast, level: bytes queued and held by flow control */
+#define UART_MALFORMED 1       /* the state is not well formed */
+#define UART_BAD_ADDRESS 2     /* a register address above 7 */
+#define UART_BAD_LEVEL 3       /* SIN above 1, or modem pins above 15 */
+#define UART_NO_CLOCK 4        /* forecast, level: work left and divisor 0 */
+#define UART_HELD_BACK 5       /* forecast, level: bytes queued and held by flow control */
+#define UART_BAD_HEADER 6      /* of a file alone: only the program `replay` answers it */
+#define UART_UNKNOWN_VERSION 7 /* replay: an unknown version */
+#define UART_BAD_RECORD 8      /* replay: a record of bad kind or with stray bits */
 
 /* Register addresses. With LCR bit 7 set, 0 and 1 are the divisor's low and high byte. */
 #define UART_RBR 0 /* read: receive buffer */
@@ -177,6 +182,20 @@ struct uart_ran {
     struct uart_state state;
 };
 
+/* How a replay ended: the number, the byte seen, the model's byte, the record's place. */
+struct uart_values {
+    uint8_t number;
+    uint8_t seen;
+    uint8_t model;
+    size_t place;
+};
+
+/* What a replay answers: how it ended, and the state in which it did. */
+struct uart_replay {
+    struct uart_values values;
+    struct uart_state state;
+};
+
 /* The fresh state. */
 struct uart_state uart_fresh(void);
 
@@ -200,9 +219,24 @@ struct uart_leveled uart_level(struct uart_state s, uint32_t t);
 struct uart_ran uart_run(struct uart_state s, uint32_t n);
 
 /*
+ * A replay of count records of a capture, without the file's header, up to the first read whose byte
+ * differs from the model's. Places count from 0.
+ *   number 0, seen == model: agreed, and the state is the end state;
+ *   number 0, seen != model: the read at the place differs, and the state is that before it;
+ *   UART_BAD_RECORD: the record at the place is bad, and the state is that before it;
+ *   UART_MALFORMED, UART_UNKNOWN_VERSION: place 0, and the state is as it was.
+ * The known version is 1. A record has its kind in bits 31..28: 0 ticks (count in 0..15), 1 read
+ * (address in 8..10, byte seen in 0..7), 2 write (the same fields), 3 SIN (bit 0), 4 modem pins (bits
+ * 0..3), 5 reset; all other bits are zero.
+ */
+struct uart_replay uart_replay(struct uart_state s, uint32_t version, const uint32_t *records,
+                               size_t count);
+
+/*
  * The library's own layout: the size of each struct, and a specimen of each in which every byte of
  * a field is the field's number. The state has fields 1..33 in the order above (an entry's are
- * 18..21); elsewhere the number answered is 34, the field after it 35, the output pins 36..41.
+ * 18..21); elsewhere the number answered is 34, the field after it 35, the output pins 36..41, the
+ * model's byte and the place of a replay 42 and 43.
  */
 uint32_t uart_size_of_state(void);
 uint32_t uart_size_of_answer(void);
@@ -210,12 +244,14 @@ uint32_t uart_size_of_looked(void);
 uint32_t uart_size_of_forecasted(void);
 uint32_t uart_size_of_leveled(void);
 uint32_t uart_size_of_ran(void);
+uint32_t uart_size_of_replay(void);
 struct uart_state uart_specimen_state(void);
 struct uart_answer uart_specimen_answer(void);
 struct uart_looked uart_specimen_looked(void);
 struct uart_forecasted uart_specimen_forecasted(void);
 struct uart_leveled uart_specimen_leveled(void);
 struct uart_ran uart_specimen_ran(void);
+struct uart_replay uart_specimen_replay(void);
 
 #define UART_AT(type, field, place) \
     UART_STATIC_ASSERT(offsetof(struct type, field) == (place), #type "." #field)
@@ -285,6 +321,13 @@ UART_STATIC_ASSERT(sizeof(struct uart_ran) == 384, "uart_ran");
 UART_AT(uart_ran, number, 0);
 UART_AT(uart_ran, used, 4);
 UART_AT(uart_ran, state, 8);
+
+UART_STATIC_ASSERT(sizeof(struct uart_replay) == 392, "uart_replay");
+UART_AT(uart_replay, values.number, 0);
+UART_AT(uart_replay, values.seen, 1);
+UART_AT(uart_replay, values.model, 2);
+UART_AT(uart_replay, values.place, 8);
+UART_AT(uart_replay, state, 16);
 
 #ifdef __cplusplus
 }

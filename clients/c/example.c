@@ -1,6 +1,7 @@
 /*
  * Sends a message, clears the transmit FIFO in the middle of a character, and prints what left the
- * line: the character that had begun is finished, as the part finishes it.
+ * line: the character that had begun is finished, as the part finishes it. Then replays a capture of
+ * the same.
  */
 #include "uart.h"
 
@@ -92,6 +93,44 @@ static void print_line(void)
     printf("left the line: %.*s\n", (int)length, text);
 }
 
+/* Replays a capture from the fresh state, and prints its end as the program `replay` does. */
+static void print_replay(const uint32_t *records, size_t count)
+{
+    struct uart_replay r = uart_replay(uart_fresh(), 1, records, count);
+    struct uart_values v = r.values;
+
+    if (v.number != UART_DONE)
+        printf("replay: refused %d %zu\n", v.number, v.place);
+    else if (v.seen != v.model)
+        printf("replay: differs %zu %d %d\n", v.place, v.seen, v.model);
+    else
+        printf("replay: agreed\n");
+    uart = r.state;
+}
+
+/* A character is on the line when the transmit FIFO is cleared; LSR is read then. */
+static void replay_captures(void)
+{
+    uint32_t records[] = {
+        0x20000383, /* LCR 83: the divisor at 0 and 1 */
+        0x20000001, /* DLL 01 */
+        0x20000303, /* LCR 03 */
+        0x20000201, /* FCR 01: FIFO on */
+        0x20000048, /* THR H */
+        0x00000028, /* 40 ticks */
+        0x20000205, /* FCR 05: transmit FIFO cleared */
+        0x10000520, /* LSR: 20 seen */
+    };
+    size_t count = sizeof records / sizeof records[0];
+
+    print_replay(records, count);
+    records[7] = 0x10000560; /* LSR: 60 seen */
+    print_replay(records, count);
+    print_forecast();
+    records[5] = 0x60000000; /* of no kind */
+    print_replay(records, count);
+}
+
 int main(void)
 {
     const char *message = "HELLO, BEAM";
@@ -130,5 +169,6 @@ int main(void)
     printf("SIN at 2: number %d\n", uart_set_sin(uart, 2).number);
     memset(&uart, 0xFF, sizeof uart);
     printf("pins of a damaged state: number %d\n", uart_pins(uart).number);
+    replay_captures();
     return EXIT_SUCCESS;
 }

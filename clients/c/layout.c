@@ -79,6 +79,7 @@ static void check_specimens(void)
     struct uart_forecasted forecasted = uart_specimen_forecasted();
     struct uart_leveled leveled = uart_specimen_leveled();
     struct uart_ran ran = uart_specimen_ran();
+    struct uart_replay replay = uart_specimen_replay();
 
     check_state(uart_specimen_state());
     HAS(answer, number, 34);
@@ -94,6 +95,11 @@ static void check_specimens(void)
     HAS(ran, number, 34);
     HAS(ran, used, 35);
     check_state(ran.state);
+    HAS(replay, values.number, 34);
+    HAS(replay, values.seen, 35);
+    HAS(replay, values.model, 42);
+    HAS(replay, values.place, 43);
+    check_state(replay.state);
 }
 
 static void check_sizes(void)
@@ -104,6 +110,7 @@ static void check_sizes(void)
     expect(uart_size_of_forecasted() == sizeof(struct uart_forecasted), "size of forecasted");
     expect(uart_size_of_leveled() == sizeof(struct uart_leveled), "size of leveled");
     expect(uart_size_of_ran() == sizeof(struct uart_ran), "size of ran");
+    expect(uart_size_of_replay() == sizeof(struct uart_replay), "size of replay");
 }
 
 /* A state handed in reaches the library field by field: what it is refused for, and what not. */
@@ -138,6 +145,33 @@ static void check_parameters(void)
     check_state(a.state);
 }
 
+/* Records handed in reach the library word by word, and no more of them than are lent. */
+static void check_records(void)
+{
+    const uint32_t records[] = {0x2000075A, 0x1000075A, 0x10000700, 0xFFFFFFFF};
+    struct uart_state fresh = uart_fresh();
+    struct uart_replay r;
+
+    r = uart_replay(fresh, 1, records, 0);
+    expect(r.values.number == UART_DONE && r.values.place == 0, "replay of nothing");
+    expect(r.state.registers.scr == 0, "state after nothing");
+    r = uart_replay(fresh, 1, records, 2);
+    expect(r.values.number == UART_DONE && r.values.seen == r.values.model, "replay of two");
+    expect(r.state.registers.scr == 0x5A, "state after two");
+    r = uart_replay(fresh, 1, records, 4);
+    expect(r.values.number == UART_DONE && r.values.place == 2, "place of the difference");
+    expect(r.values.seen == 0 && r.values.model == 0x5A, "bytes of the difference");
+    expect(r.state.registers.scr == 0x5A, "state before the difference");
+    r = uart_replay(fresh, 1, records + 3, 1);
+    expect(r.values.number == UART_BAD_RECORD && r.values.place == 0, "a bad record");
+    r = uart_replay(fresh, 0x10001, records, 2);
+    expect(r.values.number == UART_UNKNOWN_VERSION && r.values.place == 0, "version 10001 hex");
+    expect(r.state.registers.scr == 0, "state at an unknown version");
+    r = uart_replay(uart_specimen_state(), 0, records, 4);
+    expect(r.values.number == UART_MALFORMED && r.values.place == 0, "replay from the specimen");
+    check_state(r.state);
+}
+
 /* Whatever stands in memory, the call ends, and is refused where it must be. */
 static void check_any_memory(void)
 {
@@ -156,6 +190,7 @@ static void check_any_memory(void)
         expect(a.number == UART_MALFORMED, "a state of noise");
         expect(memcmp(a.state.tx.bytes, s.tx.bytes, sizeof s.tx.bytes) == 0, "noise back");
         expect(uart_run(s, UINT32_MAX).used == 0, "run of noise");
+        expect(uart_replay(s, 1, &x, 1).values.number == UART_MALFORMED, "replay from noise");
     }
 }
 
@@ -164,6 +199,7 @@ int main(void)
     check_sizes();
     check_specimens();
     check_parameters();
+    check_records();
     check_any_memory();
     puts(wrong ? "layout: differs" : "layout: ok");
     return wrong ? EXIT_FAILURE : EXIT_SUCCESS;

@@ -1,5 +1,6 @@
 """Sends a message, clears the transmit FIFO in the middle of a character, and prints what left the
-line: the character that had begun is finished, as the part finishes it."""
+line: the character that had begun is finished, as the part finishes it. Then replays a capture of
+the same."""
 import ctypes
 
 from uart import DLL, FCR, LCR, LSR, THR, Refused, Uart
@@ -44,6 +45,36 @@ def print_line(sout):
     print(f"left the line: {text}")
 
 
+def print_replay(records):
+    """Replays a capture from the fresh state, and prints its end as the program `replay` does."""
+    uart = Uart()
+    try:
+        difference = uart.replay(1, records)
+        print("replay:", "differs %d %d %d" % difference if difference else "agreed")
+    except Refused as refusal:
+        print(f"replay: refused {refusal.number} {refusal.place}")
+    return uart
+
+
+def replay_captures():
+    """A character is on the line when the transmit FIFO is cleared; LSR is read then."""
+    records = [
+        0x20000383,  # LCR 83: the divisor at 0 and 1
+        0x20000001,  # DLL 01
+        0x20000303,  # LCR 03
+        0x20000201,  # FCR 01: FIFO on
+        0x20000048,  # THR H
+        0x00000028,  # 40 ticks
+        0x20000205,  # FCR 05: transmit FIFO cleared
+        0x10000520,  # LSR: 20 seen
+    ]
+    print_replay(records)
+    records[7] = 0x10000560  # LSR: 60 seen
+    print_forecast(print_replay(records))
+    records[5] = 0x60000000  # of no kind
+    print_replay(records)
+
+
 def main():
     message = "HELLO, BEAM"
     sout = []
@@ -84,6 +115,7 @@ def main():
     print(f"SIN at 2: number {number(raise_sin)}")
     ctypes.memset(ctypes.byref(uart.state), 0xFF, ctypes.sizeof(uart.state))
     print(f"pins of a damaged state: number {number(lambda: uart.pins)}")
+    replay_captures()
 
 
 main()

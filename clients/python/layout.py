@@ -3,7 +3,7 @@ and each size is the library's own."""
 import ctypes
 
 import uart
-from uart import Answer, Forecasted, Leveled, Looked, Ran, Refused, State, Uart, library
+from uart import Answer, Forecasted, Leveled, Looked, Ran, Refused, Replay, State, Uart, library
 
 
 def named(value):
@@ -45,6 +45,10 @@ SPECIMENS = {
     Forecasted: {"number": 34, "ticks": four(35)},
     Leveled: {"number": 34, "level": 35},
     Ran: {"number": 34, "used": four(35), "state": STATE},
+    Replay: {
+        "values": {"number": 34, "seen": 35, "model": 42, "place": 43 * 0x0101010101010101},
+        "state": STATE,
+    },
 }
 
 for struct, expected in SPECIMENS.items():
@@ -76,5 +80,31 @@ try:
 except Refused as refusal:
     assert refusal.number == uart.MALFORMED
 assert named(u.state) == before
+
+# Records handed in arrive, and no more of them than are lent.
+
+
+def refused(version, records):
+    try:
+        u.replay(version, records)
+    except Refused as refusal:
+        return refusal.number, refusal.place
+    raise AssertionError("not refused")
+
+
+records = [0x2000075A, 0x1000075A, 0x10000700, 0xFFFFFFFF]
+u = Uart()
+assert u.replay(1, []) is None
+assert named(u.state) == named(Uart().state)
+assert u.replay(1, records[:2]) is None
+assert u.state.registers.scr == 0x5A
+assert u.replay(1, records) == (2, 0, 0x5A)
+assert u.state.registers.scr == 0x5A
+assert refused(1, records[3:]) == (uart.BAD_RECORD, 0)
+assert refused(0x10001, records) == (uart.UNKNOWN_VERSION, 0)
+assert u.state.registers.scr == 0x5A
+u.state = library.uart_specimen_state()
+assert refused(0, records) == (uart.MALFORMED, 0)
+assert named(u.state) == STATE
 
 print("layout: ok")

@@ -7,12 +7,13 @@
     uart.pins.sout
 
 A call that is refused raises Refused, whose number is that of the table in document 01; the state
-is then as it was. The library is target/clients/libuart.so (clients/check makes it); the variable
-UART_LIBRARY names another one.
+is then as it was, or, where a replay meets a bad record, that before it. The library is
+target/clients/libuart.so (clients/check makes it); the variable UART_LIBRARY names another one.
 """
 import ctypes
 import os
-from ctypes import Structure, c_uint8, c_uint32
+from collections import namedtuple
+from ctypes import POINTER, Structure, c_size_t, c_uint8, c_uint32
 
 # Register addresses. With LCR bit 7 set, 0 and 1 are the divisor's low and high byte.
 RBR = THR = DLL = 0
@@ -21,6 +22,8 @@ IIR = FCR = 2
 LCR, MCR, LSR, MSR, SCR = 3, 4, 5, 6, 7
 
 MALFORMED, BAD_ADDRESS, BAD_LEVEL, NO_CLOCK, HELD_BACK = 1, 2, 3, 4, 5
+# Of a replay; 6 is a file's: only the program `replay` answers it.
+BAD_HEADER, UNKNOWN_VERSION, BAD_RECORD = 6, 7, 8
 
 WHY = {
     MALFORMED: "the state is not well formed",
@@ -28,17 +31,26 @@ WHY = {
     BAD_LEVEL: "impossible pin level",
     NO_CLOCK: "work left and the divisor is 0",
     HELD_BACK: "bytes queued and held by flow control",
+    BAD_HEADER: "bad mark or nonzero pad of a capture",
+    UNKNOWN_VERSION: "unknown version of a capture",
+    BAD_RECORD: "record of bad kind or with stray bits",
 }
 
 PLACES = 64
 
 
 class Refused(Exception):
-    """A refusal, by its number."""
+    """A refusal, by its number; of a replay with the record's place."""
 
-    def __init__(self, number):
-        super().__init__(f"{WHY[number]} (number {number})")
+    def __init__(self, number, place=None):
+        at = "" if place is None else f", place {place}"
+        super().__init__(f"{WHY[number]} (number {number}{at})")
         self.number = number
+        self.place = place
+
+
+# The read at which a replay stopped: its place, counted from 0, the byte seen and the model's.
+Difference = namedtuple("Difference", "place seen model")
 
 
 # The structs, as clients/uart.h has them. Every field is an unsigned number.
@@ -144,6 +156,14 @@ class Ran(Structure):
     _fields_ = [("number", c_uint8), ("used", c_uint32), ("state", State)]
 
 
+class Values(Structure):
+    _fields_ = [("number", c_uint8), ("seen", c_uint8), ("model", c_uint8), ("place", c_size_t)]
+
+
+class Replay(Structure):
+    _fields_ = [("values", Values), ("state", State)]
+
+
 def _load():
     here = os.path.dirname(os.path.abspath(__file__))
     default = os.path.join(here, "..", "..", "target", "clients", "libuart.so")
@@ -161,8 +181,9 @@ def _load():
         "forecast": (Forecasted, State),
         "level": (Leveled, State, c_uint32),
         "run": (Ran, State, c_uint32),
+        "replay": (Replay, State, c_uint32, POINTER(c_uint32), c_size_t),
     }
-    for struct in (State, Answer, Looked, Forecasted, Leveled, Ran):
+    for struct in (State, Answer, Looked, Forecasted, Leveled, Ran, Replay):
         calls["size_of_" + struct.__name__.lower()] = (c_uint32,)
         calls["specimen_" + struct.__name__.lower()] = (struct,)
     for name, (result, *parameters) in calls.items():
@@ -227,6 +248,20 @@ class Uart:
     def run(self, n):
         """At most n ticks, until queue and shift register are both empty: the ticks used."""
         return self._step(library.uart_run(self.state, _fits(n, 32))).used
+
+    def replay(self, version, records):
+        """A replay of records of a capture, up to the first read whose byte differs from the
+        model's: None where all agree, else the Difference. The state is then the end state, or
+        that before the read."""
+        words = (c_uint32 * len(records))(*(_fits(record, 32) for record in records))
+        replay = library.uart_replay(self.state, _fits(version, 32), words, len(records))
+        values = replay.values
+        self.state = replay.state
+        if values.number:
+            raise Refused(values.number, values.place)
+        if values.seen == values.model:
+            return None
+        return Difference(values.place, values.seen, values.model)
 
     @property
     def pins(self):

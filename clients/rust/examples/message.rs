@@ -1,6 +1,7 @@
 // Sends a message, clears the transmit FIFO in the middle of a character, and prints what left the
-// line: the character that had begun is finished, as the part finishes it.
-use tl16c750::{Refusal, Uart, DLL, FCR, LCR, LSR, THR};
+// line: the character that had begun is finished, as the part finishes it. Then replays a capture of
+// the same.
+use tl16c750::{Outcome, Refusal, Uart, DLL, FCR, LCR, LSR, THR};
 
 const PULSES_PER_BIT: usize = 16; // and a tick is a pulse: the divisor is 1
 const BITS_PER_FRAME: usize = 10; // start, eight data bits, stop
@@ -46,6 +47,38 @@ fn print_line(sout: &[u8]) {
     println!("left the line: {text}");
 }
 
+// Replays a capture from the fresh state, and prints its end as the program `replay` does.
+fn print_replay(records: &[u32]) -> Uart {
+    let mut uart = Uart::fresh();
+    match uart.replay(1, records) {
+        Outcome::Agreed => println!("replay: agreed"),
+        Outcome::Differs { place, seen, model } => {
+            println!("replay: differs {place} {seen} {model}")
+        }
+        Outcome::Refused { refusal, place } => println!("replay: refused {} {place}", refusal.0),
+    }
+    uart
+}
+
+// A character is on the line when the transmit FIFO is cleared; LSR is read then.
+fn replay_captures() {
+    let mut records = [
+        0x20000383, // LCR 83: the divisor at 0 and 1
+        0x20000001, // DLL 01
+        0x20000303, // LCR 03
+        0x20000201, // FCR 01: FIFO on
+        0x20000048, // THR H
+        0x00000028, // 40 ticks
+        0x20000205, // FCR 05: transmit FIFO cleared
+        0x10000520, // LSR: 20 seen
+    ];
+    print_replay(&records);
+    records[7] = 0x10000560; // LSR: 60 seen
+    print_forecast(&print_replay(&records));
+    records[5] = 0x60000000; // of no kind
+    print_replay(&records);
+}
+
 fn main() -> Result<(), Refusal> {
     let message = "HELLO, BEAM";
     let mut sout = Vec::new();
@@ -88,5 +121,6 @@ fn main() -> Result<(), Refusal> {
     println!("SIN at 2: number {}", number(uart.set_sin(2)));
     uart.state.tx.bytes = [0xFF; 64];
     println!("pins of a damaged state: number {}", number(uart.pins()));
+    replay_captures();
     Ok(())
 }

@@ -31,7 +31,7 @@ pub const LSR: u8 = 5;
 pub const MSR: u8 = 6;
 pub const SCR: u8 = 7;
 
-/// A refusal, by its number. The state is as it was.
+/// A refusal, by its number. The state is as it was; of a replay see [`Outcome`].
 #[derive(Clone, Copy, Debug, PartialEq, Eq)]
 pub struct Refusal(pub u8);
 
@@ -41,6 +41,10 @@ impl Refusal {
     pub const BAD_LEVEL: Refusal = Refusal(3);
     pub const NO_CLOCK: Refusal = Refusal(4);
     pub const HELD_BACK: Refusal = Refusal(5);
+    /// Of a file alone: only the program `replay` answers it.
+    pub const BAD_HEADER: Refusal = Refusal(6);
+    pub const UNKNOWN_VERSION: Refusal = Refusal(7);
+    pub const BAD_RECORD: Refusal = Refusal(8);
 }
 
 impl fmt::Display for Refusal {
@@ -51,6 +55,9 @@ impl fmt::Display for Refusal {
             Refusal::BAD_LEVEL => "impossible pin level",
             Refusal::NO_CLOCK => "work left and the divisor is 0",
             Refusal::HELD_BACK => "bytes queued and held by flow control",
+            Refusal::BAD_HEADER => "bad mark or nonzero pad of a capture",
+            Refusal::UNKNOWN_VERSION => "unknown version of a capture",
+            Refusal::BAD_RECORD => "record of bad kind or with stray bits",
             _ => "refused",
         };
         write!(f, "{why} (number {})", self.0)
@@ -65,6 +72,18 @@ fn done<T>(number: u8, value: T) -> Result<T, Refusal> {
     } else {
         Err(Refusal(number))
     }
+}
+
+/// How a replay ended. Places count from 0 at the first record.
+#[derive(Clone, Copy, Debug, PartialEq, Eq)]
+pub enum Outcome {
+    /// Every read saw the model's byte; the state is the end state.
+    Agreed,
+    /// The read at the place saw another byte than the model's; the state is that before it.
+    Differs { place: usize, seen: u8, model: u8 },
+    /// The record at the place is bad, and the state is that before it; or another refusal, with
+    /// place 0 and the state as it was.
+    Refused { refusal: Refusal, place: usize },
 }
 
 /// The UART, holding its state.
@@ -160,5 +179,24 @@ impl Uart {
         let used = done(ran.number, ran.used)?;
         self.state = ran.state;
         Ok(used)
+    }
+
+    /// A replay of records of a capture, up to the first read whose byte differs from the model's.
+    pub fn replay(&mut self, version: u32, records: &[u32]) -> Outcome {
+        // SAFETY: the address and the length are those of a slice.
+        let replay =
+            unsafe { raw::uart_replay(self.state, version, records.as_ptr(), records.len()) };
+        let raw::Values {
+            number,
+            seen,
+            model,
+            place,
+        } = replay.values;
+        self.state = replay.state;
+        match done(number, ()) {
+            Err(refusal) => Outcome::Refused { refusal, place },
+            Ok(()) if seen != model => Outcome::Differs { place, seen, model },
+            Ok(()) => Outcome::Agreed,
+        }
     }
 }

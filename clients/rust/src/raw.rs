@@ -162,8 +162,25 @@ pub struct Ran {
     pub state: State,
 }
 
-// SAFETY: the signatures are those of crates/export, and no call has a condition on what it is given;
-// tests/layout.rs holds the structs against the library's own.
+/// How a replay ended: the number, the byte seen, the model's byte, the record's place.
+#[repr(C)]
+#[derive(Clone, Copy, Debug, PartialEq, Eq)]
+pub struct Values {
+    pub number: u8,
+    pub seen: u8,
+    pub model: u8,
+    pub place: usize,
+}
+
+#[repr(C)]
+#[derive(Clone, Copy, Debug, PartialEq, Eq)]
+pub struct Replay {
+    pub values: Values,
+    pub state: State,
+}
+
+// SAFETY: the signatures are those of crates/export, and no safe call has a condition on what it is
+// given; tests/layout.rs holds the structs against the library's own.
 unsafe extern "C" {
     pub safe fn uart_fresh() -> State;
     pub safe fn uart_reset(s: State) -> Answer;
@@ -177,6 +194,9 @@ unsafe extern "C" {
     pub safe fn uart_forecast(s: State) -> Forecasted;
     pub safe fn uart_level(s: State, t: u32) -> Leveled;
     pub safe fn uart_run(s: State, n: u32) -> Ran;
+    /// # Safety
+    /// `count` words can be read at `records`.
+    pub unsafe fn uart_replay(s: State, version: u32, records: *const u32, count: usize) -> Replay;
 
     pub safe fn uart_size_of_state() -> u32;
     pub safe fn uart_size_of_answer() -> u32;
@@ -184,10 +204,12 @@ unsafe extern "C" {
     pub safe fn uart_size_of_forecasted() -> u32;
     pub safe fn uart_size_of_leveled() -> u32;
     pub safe fn uart_size_of_ran() -> u32;
+    pub safe fn uart_size_of_replay() -> u32;
     pub safe fn uart_specimen_state() -> State;
     pub safe fn uart_specimen_answer() -> Answer;
     pub safe fn uart_specimen_looked() -> Looked;
     pub safe fn uart_specimen_forecasted() -> Forecasted;
     pub safe fn uart_specimen_leveled() -> Leveled;
     pub safe fn uart_specimen_ran() -> Ran;
+    pub safe fn uart_specimen_replay() -> Replay;
 }

@@ -2,7 +2,7 @@
 // number, and each size is the library's own.
 use std::mem::size_of;
 use tl16c750::raw::*;
-use tl16c750::{Refusal, Uart, LSR, RBR};
+use tl16c750::{Outcome, Refusal, Uart, LSR, RBR};
 
 fn four(n: u8) -> u32 {
     u32::from_ne_bytes([n; 4])
@@ -115,6 +115,18 @@ fn fields_lie_as_in_the_specimens() {
             state: state()
         }
     );
+    assert_eq!(
+        uart_specimen_replay(),
+        Replay {
+            values: Values {
+                number: 34,
+                seen: 35,
+                model: 42,
+                place: usize::from_ne_bytes([43; 8])
+            },
+            state: state()
+        }
+    );
 }
 
 #[test]
@@ -125,6 +137,7 @@ fn sizes_are_the_librarys() {
     assert_eq!(uart_size_of_forecasted() as usize, size_of::<Forecasted>());
     assert_eq!(uart_size_of_leveled() as usize, size_of::<Leveled>());
     assert_eq!(uart_size_of_ran() as usize, size_of::<Ran>());
+    assert_eq!(uart_size_of_replay() as usize, size_of::<Replay>());
 }
 
 #[test]
@@ -151,4 +164,33 @@ fn a_state_handed_in_arrives() {
     let before = uart;
     assert_eq!(uart.read(LSR), Err(Refusal::MALFORMED));
     assert_eq!(uart, before);
+}
+
+#[test]
+fn records_handed_in_arrive() {
+    let records = [0x2000075A, 0x1000075A, 0x10000700, 0xFFFFFFFF];
+    let mut uart = Uart::fresh();
+    assert_eq!(uart.replay(1, &[]), Outcome::Agreed);
+    assert_eq!(uart, Uart::fresh());
+    assert_eq!(uart.replay(1, &records[..2]), Outcome::Agreed);
+    assert_eq!(uart.state.registers.scr, 0x5A);
+    assert_eq!(
+        uart.replay(1, &records),
+        Outcome::Differs {
+            place: 2,
+            seen: 0,
+            model: 0x5A
+        }
+    );
+    assert_eq!(uart.state.registers.scr, 0x5A);
+    let refused = |refusal| Outcome::Refused { refusal, place: 0 };
+    assert_eq!(uart.replay(1, &records[3..]), refused(Refusal::BAD_RECORD));
+    assert_eq!(
+        uart.replay(0x10001, &records),
+        refused(Refusal::UNKNOWN_VERSION)
+    );
+    assert_eq!(uart.state.registers.scr, 0x5A);
+    uart.state = state();
+    assert_eq!(uart.replay(0, &records), refused(Refusal::MALFORMED));
+    assert_eq!(uart.state, state());
 }
