@@ -1,18 +1,24 @@
 -- Replay record by record.
 use Prim.Native.Nat.{ℕ, suc, _+_, _/_, _%_, _^_, _≤_, _<_}
 use mathlib.Core.Path.{_≡_, refl, sym, ap, _∙_}
-use mathlib.Core.Bool.{Bool, true, false, cond, and-false}
+use mathlib.Core.Bool.{Bool, true, false, cond, _&&_, _||_, and-false}
 use mathlib.Core.List.{List, [], _∷_}
 use lib.Dec.{leb, eqb}
 use lib.ListN.{length, drop, getD, drop-of-length-le}
 use lib.Seq.{drop-cons}
 use native.Mathlib.Omega.{arith}
-use borrow.Author.Tests.{le-leb, eq-eqb, ne-eqb, eqb-true}
+use borrow.Author.Tests.{le-leb, eq-eqb, ne-eqb, eqb-true, not-true}
+use Rattle.flag.specs.Flag.{bit}
 use Rattle.flag.proofs.Laws.{by-test}
 use Rattle.recorder.specs.Record.{kind, count, address, byte, sin, modem, good, isRead}
+use Rattle.device.specs.declared.FifoControl.{FifoControl}
 use Rattle.device.specs.declared.State.{State}
+use Rattle.device.specs.State.{withFifo, withTx, withRx, withLatches}
 use Rattle.device.specs.Ranges.{wellFormed}
 use Rattle.device.specs.Autoflow.{settled}
+use Rattle.device.specs.Thr.{thrWrite}
+use Rattle.device.specs.Fcr.{fifoAfter, switched, clearReceive, clearTransmit, fcrWrite}
+use Rattle.device.specs.Lcr.{divisorAccess}
 use Rattle.device.specs.Calls.{done, readRegister, writeRegister, readOf, writeOf}
 use Rattle.registers.specs.Reaching.{reachesQueue}
 use Rattle.registers.proofs.Laws.{withNumbers, write-parts, settled-numbers}
@@ -74,6 +80,50 @@ numbers-step s w f k e =
     let apart = settled-numbers s (writeRegister s (address w) (byte w)) (write-parts s (address w) (byte w) e) in
     ap (λ (t : State). withNumbers s t) step ∙ sym apart ∙ sym step
 
+-- Where it reaches a queue, only the queues, the settings of the FIFO and the latches change.
+
+-- the state with these parts of another in place of its own
+abbrev pub withQueues : State → State → State
+withQueues s t = withLatches (withRx (withTx (withFifo s (t .fifo)) (t .tx)) (t .rx)) (t .latches)
+
+thr-parts : (s : State) (b : ℕ) → thrWrite s b ≡ withQueues s (thrWrite s b)
+unfolding thrWrite
+thr-parts s b = refl
+
+fcr-parts : (s : State) (b : ℕ) → fcrWrite s b ≡ withQueues s (fcrWrite s b)
+unfolding fcrWrite clearReceive clearTransmit
+fcr-parts s b =
+    let g = fifoAfter (s .registers) (s .fifo) b in
+    go g (switched (s .fifo) g || (bit 0 b && bit 1 b)) (switched (s .fifo) g || (bit 0 b && bit 2 b))
+  where
+    go : (g : FifoControl) (receive transmit : Bool) →
+        (let t = withFifo s g in
+        let u = cond receive (clearReceive t) t in
+        let v = cond transmit (clearTransmit u) u in
+        v ≡ withQueues s v)
+    go g true true = refl
+    go g true false = refl
+    go g false true = refl
+    go g false false = refl
+
+queue-parts : (s : State) (a b : ℕ) → reachesQueue s a ≡ true → writeRegister s a b ≡ withQueues s (writeRegister s a b)
+unfolding writeRegister
+queue-parts s a b h = go (eqb a 0) refl
+  where
+    go : (z : Bool) → eqb a 0 ≡ z → writeRegister s a b ≡ withQueues s (writeRegister s a b)
+    go true e = simp (e, not-true (divisorAccess (s .registers)) (simp e at h)) (thr-parts s b)
+    go false e = simp (eqb-true a 2 (simp e at h)) (fcr-parts s b)
+
+settled-queues : (s t : State) → t ≡ withQueues s t → settled t ≡ withQueues s (settled t)
+unfolding settled
+settled-queues s t e = ap (λ (u : State). withLatches u (settled t .latches)) e
+
+pub queue-step : (s : State) (w : ℕ) → wellFormed s ≡ true → kind w ≡ 2 → reachesQueue s (address w) ≡ true → withQueues s (stepOf s w) ≡ stepOf s w
+queue-step s w f k e =
+    let step = write-step s w f k in
+    let apart = settled-queues s (writeRegister s (address w) (byte w)) (queue-parts s (address w) (byte w) e) in
+    ap (λ (t : State). withQueues s t) step ∙ sym apart ∙ sym step
+
 -- A record that is no read does not differ, nor a read that saw the model's byte; any other read does.
 
 pub no-read : (s : State) (w : ℕ) → isRead w ≡ false → differing s w ≡ false
@@ -130,11 +180,21 @@ module _ {s : State} {records : List ℕ} {t : State} {i : ℕ} where
   unfolding replayFrom
   replay-agrees r h = rw (drop-of-length-le records h) at (r .rest)
 
-  pub replay-refuses : Replaying s records t i → i < length records → good (getD records i 0) ≡ false → refused 8 t i ≡ replayFrom 0 s records
+  replay-refuses : Replaying s records t i → i < length records → good (getD records i 0) ≡ false → refused 8 t i ≡ replayFrom 0 s records
   unfolding replayFrom
   replay-refuses r h g = simp g at (next r h)
 
-  pub replay-differs : Replaying s records t i → i < length records → good (getD records i 0) ≡ true → differing t (getD records i 0) ≡ true →
+  replay-differs : Replaying s records t i → i < length records → good (getD records i 0) ≡ true → differing t (getD records i 0) ≡ true →
       differs t i (byte (getD records i 0)) (modelByte t (getD records i 0)) ≡ replayFrom 0 s records
   unfolding replayFrom
   replay-differs r h g d = simp (g, d) at (next r h)
+
+  -- a record that ends the replay
+  pub replay-stops : (model : ℕ) → Replaying s records t i → i < length records →
+      (good (getD records i 0) ≡ true → (differing t (getD records i 0) ≡ true) × (model ≡ modelByte t (getD records i 0))) →
+      cond (good (getD records i 0)) (differs t i (byte (getD records i 0)) model) (refused 8 t i) ≡ replayFrom 0 s records
+  replay-stops model r h d = go (good (getD records i 0)) refl
+    where
+      go : (g : Bool) → good (getD records i 0) ≡ g → cond (good (getD records i 0)) (differs t i (byte (getD records i 0)) model) (refused 8 t i) ≡ replayFrom 0 s records
+      go false e = simp e (replay-refuses r h e)
+      go true e = simp e (rw (d e .1) (replay-differs r h e (d e .0)))

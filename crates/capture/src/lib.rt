@@ -9,9 +9,10 @@ use ranges::well_formed;
 use recorder::file;
 use recorder::record;
 ghost use mathlib.Core.Path.{_≡_};
-ghost use mathlib.Core.Bool.{true};
+ghost use mathlib.Core.Bool.{true, cond};
 ghost use Rattle.device.specs.Ranges.{wellFormed};
-ghost use Rattle.capture.specs.Replay.{refused as «refused-at», valuesOf, replayFrom, replayOf, Agrees};
+ghost use Rattle.recorder.specs.Record.{good as «good-record», byte as «byte-of»};
+ghost use Rattle.capture.specs.Replay.{differs as «differs-at», refused as «refused-at», valuesOf, replayFrom, replayOf, Agrees};
 
 // How a replay ended: every read agreed, one differs, or a refusal.
 pub enum Outcome {
@@ -78,6 +79,23 @@ fn refused(number: u8, s: State, place: usize) -> Replayed
     }
 }
 
+// The answer at a record that ends a replay: it is bad, or a read that the model answers otherwise.
+fn stopped(s: State, w: u32, place: usize, model: u8) -> Replayed
+    ensures { λ r. ⌜ r ≡ cond («good-record» w) («differs-at» s place («byte-of» w) model) («refused-at» 8 s place) ⌝ }
+{
+    if !record::good(w) {
+        return refused(BAD_RECORD, s, place);
+    }
+    Replayed {
+        state: s,
+        outcome: Outcome::Differs {
+            place,
+            seen: record::byte(w),
+            model,
+        },
+    }
+}
+
 // Replays records one by one from a well-formed state, up to the first that is bad or a read that
 // differs. What a record does not touch stays where it is: most reads change nothing, most writes
 // no queue.
@@ -98,7 +116,15 @@ fn replay_records(s: State, records: &[u32]) -> Replayed
         }
         if record::kind(w) == record::WRITE {
             if registers::reaches_queue(t, record::address(w)) {
-                t = step::write_queue(t, w);
+                let n = step::write_queue(t, w);
+                let fifo = n.fifo;
+                let tx = n.tx;
+                let rx = n.rx;
+                let latches = n.latches;
+                t.fifo = fifo;
+                t.tx = tx;
+                t.rx = rx;
+                t.latches = latches;
                 i += 1;
                 continue;
             }
@@ -133,18 +159,7 @@ fn replay_records(s: State, records: &[u32]) -> Replayed
             outcome: Outcome::Agreed,
         };
     }
-    let w = records[place];
-    if !record::good(w) {
-        return refused(BAD_RECORD, t, place);
-    }
-    Replayed {
-        state: t,
-        outcome: Outcome::Differs {
-            place,
-            seen: record::byte(w),
-            model,
-        },
-    }
+    stopped(t, records[place], place, model)
 }
 
 // Replays records of a version from a state.

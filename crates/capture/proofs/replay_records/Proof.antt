@@ -1,18 +1,18 @@
 -- What is left to replay from the current state answers as the whole does.
-use mathlib.Core.Bool.{true≢false}
+use mathlib.Core.Bool.{true≢false, cond}
 use Rattle.queue.proofs.Laws.{length-mapped}
-use Rattle.capture.proofs.Laws.{Replaying, replay-turns, replay-agrees, replay-refuses, replay-differs, read-step, read-stays, model-byte, numbers-step, write-no-read, no-read, same-byte, other-byte, address-most}
+use Rattle.capture.proofs.Laws.{Replaying, replay-turns, replay-agrees, read-step, read-stays, model-byte, numbers-step, write-no-read, no-read, same-byte, other-byte, address-most, withQueues, queue-step, replay-stops}
 use Rattle.registers.proofs.Laws.{withNumbers}
 use Rattle.invariant.proofs.Good.{good-of}
 use Rattle.device.specs.Calls.{readRegister, readOf}
 use Rattle.registers.specs.Reaching.{reachesQueue}
 use Rattle.capture.specs.Replay.{refused, differs, stepOf, modelByte, differing}
-use Rattle.recorder.specs.Record.{kind, address, good, isRead}
+use Rattle.recorder.specs.Record.{kind, address, good, isRead, byte}
 use Rattle.device.specs.declared.State.{State}
 use mathlib.Core.Path.{_≡_, refl, sym, ap, subst, _∙_}
 use mathlib.Core.Logic.{⊎-elim}
 use Prim.Native.Nat.{ℕ, _+_, _-_, _<_}
-use mathlib.Core.Bool.{true, false}
+use mathlib.Core.Bool.{true, false, cond}
 use lib.ListN.{length, getD}
 use native.Mathlib.Omega.{arith}
 use borrow.Author.Tests.{eq-eqb, ne-eqb, not-true, not-false}
@@ -66,18 +66,26 @@ write-queue-requires c κs =
     (c .before .before .before .before .before .before .before .before .before .loop .inv .kept .well, (sym (c .before .before .before .before .kind .ensures) ∙ c .before .before .before .if3 .taken, reaches))
 
 add-i : tie.Need-add-i Inv-loop μ-loop
-add-i c = omega (arith, c .before .before .before .before .before .before .before .before .before .if1 .left, c .before .before .before .before .before .before .before .before .before .before .before .before .good .1 .0 .0)
+add-i c = omega (arith, c .before .before .before .before .before .before .before .before .before .before .before .before .before .if1 .left, c .before .before .before .before .before .before .before .before .before .before .before .before .before .before .before .before .good .1 .0 .0)
 
 loop-less : tie.Need-loop-less Inv-loop μ-loop
-loop-less c = omega (arith, c .before .before .before .before .before .before .before .before .before .if1 .left)
+loop-less c = omega (arith, c .before .before .before .before .before .before .before .before .before .before .before .before .before .if1 .left)
 
 loop-again : tie.Need-loop-again Inv-loop μ-loop
 loop-again c =
-    let w = getD (c .before .before .before .before .before .before .before .before .before .before .before .before .args .records .now) (c .before .before .before .before .before .before .before .before .before .before .loop .i) 0 in
-    rw (c .write-queue .ensures)
-    (replay-turns (c .before .before .before .before .before .before .before .before .before .before .loop .inv) (omega (arith, c .before .before .before .before .before .before .before .before .before .if1 .left))
-    (sym (c .before .before .before .before .before .before .before .good2 .ensures) ∙ not-false _ (c .before .before .before .before .before .before .if2 .left))
-    (no-read _ w (write-no-read w (sym (c .before .before .before .before .before .kind .ensures) ∙ c .before .before .before .before .if3 .taken))))
+    let w = getD (c .before .before .before .before .before .before .before .before .before .before .before .before .before .before .before .before .args .records .now) (c .before .before .before .before .before .before .before .before .before .before .before .before .before .before .loop .i) 0 in
+    let t = c .before .before .before .before .before .before .before .before .before .before .before .before .before .before .loop .t in
+    let write : kind w ≡ 2 = sym (c .before .before .before .before .before .before .before .before .before .kind .ensures) ∙ c .before .before .before .before .before .before .before .before .if3 .taken in
+    let reaches : reachesQueue t (address w) ≡ true =
+    ap (λ (a : ℕ). reachesQueue t a) (sym (c .before .before .before .before .before .before .before .address .ensures)) ∙ sym (c .before .before .before .before .before .before .reaches-queue .ensures) ∙ c .before .before .before .before .before .if4 .taken
+    in
+    let next : withQueues t (c .before .before .before .before .write-queue .result) ≡ stepOf t w =
+    ap (λ (n : State). withQueues t n) (c .before .before .before .before .write-queue .ensures) ∙ queue-step t w (c .before .before .before .before .before .before .before .before .before .before .before .before .before .before .loop .inv .kept .well) write reaches
+    in
+    subst (λ (u : State). Replaying (c .before .before .before .before .before .before .before .before .before .before .before .before .before .before .before .before .args .s) (c .before .before .before .before .before .before .before .before .before .before .before .before .before .before .before .before .args .records .now) u (c .before .before .before .before .before .before .before .before .before .before .before .before .before .before .loop .i + 1)) (sym next)
+    (replay-turns (c .before .before .before .before .before .before .before .before .before .before .before .before .before .before .loop .inv) (omega (arith, c .before .before .before .before .before .before .before .before .before .before .before .before .before .if1 .left))
+    (sym (c .before .before .before .before .before .before .before .before .before .before .before .good2 .ensures) ∙ not-false _ (c .before .before .before .before .before .before .before .before .before .before .if2 .left))
+    (no-read t w (write-no-read w write)))
 
 write-numbers-requires : tie.Need-write-numbers-requires Inv-loop μ-loop
 write-numbers-requires c κs =
@@ -193,37 +201,24 @@ differed c h g =
 returns : tie.Need-returns Inv-loop μ-loop
 returns c = replay-agrees (c .before .before .loop .inv) (omega (arith, same (c .before)))
 
-mul-w-2 : tie.Need-mul-w-2 Inv-loop μ-loop
-mul-w-2 c = search needs
+mul-stopped : tie.Need-mul-stopped Inv-loop μ-loop
+mul-stopped c = search needs
 
-shared-slice-read-w-2 : tie.Need-shared-slice-read-w-2 Inv-loop μ-loop
-shared-slice-read-w-2 c = search needs
+shared-slice-read-stopped : tie.Need-shared-slice-read-stopped Inv-loop μ-loop
+shared-slice-read-stopped c = search needs
 
-good-requires-2 : tie.Need-good-requires-2 Inv-loop μ-loop
-good-requires-2 c κs = search needs
-
-refused-requires : tie.Need-refused-requires Inv-loop μ-loop
-refused-requires c κs = search needs
+stopped-requires : tie.Need-stopped-requires Inv-loop μ-loop
+stopped-requires c κs = search needs
 
 returns-2 : tie.Need-returns-2 Inv-loop μ-loop
-returns-2 c = let e = same (c .before .before .before .before .before .before) in
-    let records = c .before .before .before .before .before .before .before .before .before .args .records .now in
-    c .refused .ensures ∙ ap (refused 8 (c .before .before .before .before .before .before .before .loop .t)) e
-    ∙ replay-refuses (c .before .before .before .before .before .before .before .loop .inv) (omega (arith, c .before .before .before .before .before .if8 .left, e))
-    (ap (λ (j : ℕ). good (getD records j 0)) (sym e) ∙ sym (c .before .before .good3 .ensures) ∙ not-true _ (c .before .if9 .taken))
-
-byte-requires-2 : tie.Need-byte-requires-2 Inv-loop μ-loop
-byte-requires-2 c κs = search needs
-
-returns-3 : tie.Need-returns-3 Inv-loop μ-loop
-returns-3 c = let e = same (c .before .before .before .before .before .before) in
-    let i = c .before .before .before .before .before .before .before .loop .i in
-    let t = c .before .before .before .before .before .before .before .loop .t in
-    let records = c .before .before .before .before .before .before .before .before .before .args .records .now in
-    let inside : i < length records = omega (arith, c .before .before .before .before .before .if8 .left, e) in
-    let g : good (getD records i 0) ≡ true = ap (λ (j : ℕ). good (getD records j 0)) (sym e) ∙ sym (c .before .before .good3 .ensures) ∙ not-false _ (c .before .if9 .left) in
-    let d = differed (c .before .before .before .before .before .before) inside g in
-    rw (e, c .byte2 .ensures, e, d .1) (replay-differs (c .before .before .before .before .before .before .before .loop .inv) inside g (d .0))
+returns-2 c =
+    let e = same (c .before .before .before .before) in
+    let t = c .before .before .before .before .before .loop .t in
+    let records = c .before .before .before .before .before .before .before .args .records .now in
+    let inside : c .before .before .before .before .before .loop .i < length records = omega (arith, c .before .before .before .if8 .left, e) in
+    c .stopped .ensures
+    ∙ ap (λ (j : ℕ). cond (good (getD records j 0)) (differs t j (byte (getD records j 0)) (c .before .before .before .before .if1 .model)) (refused 8 t j)) e
+    ∙ replay-stops (c .before .before .before .before .if1 .model) (c .before .before .before .before .before .loop .inv) inside (differed (c .before .before .before .before) inside)
 
 pub replay-records-spec : {M : Type 1} → statement M
 replay-records-spec =
@@ -260,10 +255,7 @@ replay-records-spec =
     loop-less-4
     loop-again-4
     returns
-    mul-w-2
-    shared-slice-read-w-2
-    good-requires-2
-    refused-requires
-    returns-2
-    byte-requires-2
-    returns-3)
+    mul-stopped
+    shared-slice-read-stopped
+    stopped-requires
+    returns-2)
