@@ -1,27 +1,21 @@
 -- Replay record by record.
 use Prim.Native.Nat.{ℕ, suc, _+_, _/_, _%_, _^_, _≤_, _<_}
 use mathlib.Core.Path.{_≡_, refl, sym, ap, _∙_}
-use mathlib.Core.Bool.{Bool, true, false, cond, _&&_, _||_, and-false}
+use mathlib.Core.Bool.{Bool, true, false, cond, and-false}
 use mathlib.Core.List.{List, [], _∷_}
 use lib.Dec.{leb, eqb}
 use lib.ListN.{length, drop, getD, drop-of-length-le}
 use lib.Seq.{drop-cons}
 use native.Mathlib.Omega.{arith}
-use borrow.Author.Tests.{le-leb, eq-eqb, ne-eqb, eqb-true, not-true}
-use Rattle.flag.specs.Flag.{bit}
+use borrow.Author.Tests.{le-leb, eq-eqb, ne-eqb, eqb-true}
 use Rattle.flag.proofs.Laws.{by-test}
 use Rattle.recorder.specs.Record.{kind, count, address, byte, sin, modem, good, isRead}
-use Rattle.device.specs.declared.FifoControl.{FifoControl}
 use Rattle.device.specs.declared.State.{State}
-use Rattle.device.specs.State.{withFifo, withTx, withRx, withLatches}
 use Rattle.device.specs.Ranges.{wellFormed}
 use Rattle.device.specs.Autoflow.{settled}
-use Rattle.device.specs.Thr.{thrWrite}
-use Rattle.device.specs.Fcr.{fifoAfter, switched, clearReceive, clearTransmit, fcrWrite}
-use Rattle.device.specs.Lcr.{divisorAccess}
 use Rattle.device.specs.Calls.{done, readRegister, writeRegister, readOf, writeOf}
 use Rattle.registers.specs.Reaching.{reachesQueue}
-use Rattle.registers.proofs.Laws.{withNumbers, write-parts, settled-numbers}
+use Rattle.registers.proofs.Laws.{withNumbers, write-parts, settled-numbers, withQueues, queue-parts, settled-queues}
 use Rattle.invariant.proofs.Good.{good-of}
 use Rattle.invariant.proofs.Settled.{Kept, settled-same}
 use Rattle.invariant.proofs.Steps.{reset-kept, read-kept, write-kept, sin-kept, modem-kept, ticks-kept}
@@ -81,42 +75,6 @@ numbers-step s w f k e =
     ap (λ (t : State). withNumbers s t) step ∙ sym apart ∙ sym step
 
 -- Where it reaches a queue, only the queues, the settings of the FIFO and the latches change.
-
--- the state with these parts of another in place of its own
-abbrev pub withQueues : State → State → State
-withQueues s t = withLatches (withRx (withTx (withFifo s (t .fifo)) (t .tx)) (t .rx)) (t .latches)
-
-thr-parts : (s : State) (b : ℕ) → thrWrite s b ≡ withQueues s (thrWrite s b)
-unfolding thrWrite
-thr-parts s b = refl
-
-fcr-parts : (s : State) (b : ℕ) → fcrWrite s b ≡ withQueues s (fcrWrite s b)
-unfolding fcrWrite clearReceive clearTransmit
-fcr-parts s b =
-    let g = fifoAfter (s .registers) (s .fifo) b in
-    go g (switched (s .fifo) g || (bit 0 b && bit 1 b)) (switched (s .fifo) g || (bit 0 b && bit 2 b))
-  where
-    go : (g : FifoControl) (receive transmit : Bool) →
-        (let t = withFifo s g in
-        let u = cond receive (clearReceive t) t in
-        let v = cond transmit (clearTransmit u) u in
-        v ≡ withQueues s v)
-    go g true true = refl
-    go g true false = refl
-    go g false true = refl
-    go g false false = refl
-
-queue-parts : (s : State) (a b : ℕ) → reachesQueue s a ≡ true → writeRegister s a b ≡ withQueues s (writeRegister s a b)
-unfolding writeRegister
-queue-parts s a b h = go (eqb a 0) refl
-  where
-    go : (z : Bool) → eqb a 0 ≡ z → writeRegister s a b ≡ withQueues s (writeRegister s a b)
-    go true e = simp (e, not-true (divisorAccess (s .registers)) (simp e at h)) (thr-parts s b)
-    go false e = simp (eqb-true a 2 (simp e at h)) (fcr-parts s b)
-
-settled-queues : (s t : State) → t ≡ withQueues s t → settled t ≡ withQueues s (settled t)
-unfolding settled
-settled-queues s t e = ap (λ (u : State). withLatches u (settled t .latches)) e
 
 pub queue-step : (s : State) (w : ℕ) → wellFormed s ≡ true → kind w ≡ 2 → reachesQueue s (address w) ≡ true → withQueues s (stepOf s w) ≡ stepOf s w
 queue-step s w f k e =

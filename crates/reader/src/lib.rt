@@ -8,7 +8,6 @@ use libc::STDERR_FILENO;
 use libc::STDOUT_FILENO;
 use protocol::outcome;
 ghost use mathlib.Core.Path.{_≡_};
-ghost use Prim.Native.Nat.{_+_, _*_, _≤_, _^_};
 ghost use lib.ListN.{length};
 ghost use Rattle.io.specs.Counts.{Counts};
 

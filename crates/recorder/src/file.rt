@@ -1,7 +1,7 @@
 // The file: words of its bytes, and its header.
 ghost use mathlib.Core.Path.{_≡_};
 ghost use Prim.Native.Nat.{_≤_, _*_, _/_};
-ghost use lib.ListN.{length, take, drop};
+ghost use lib.ListN.{length, take};
 ghost use Rattle.recorder.specs.File.{wordOf, wordsOf, goodHeader, version as «version-of», known as «known-version»};
 
 // U, T, R and a zero byte.

@@ -1,6 +1,5 @@
 // A record: its kind, its fields, and whether it is good.
 ghost use mathlib.Core.Path.{_≡_};
-ghost use Prim.Native.Nat.{_<_};
 ghost use Rattle.recorder.specs.Record.{kind as «kind-of», count as «count-of», address as «address-of», byte as «byte-of», sin as «sin-of», modem as «modem-of», room as «room-of», good as «good-of»};
 
 // The kinds.

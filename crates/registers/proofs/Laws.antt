@@ -1,27 +1,28 @@
 -- Laws of the definitions that the proofs use.
 use Prim.Native.Nat.{ℕ, _≤_}
 use mathlib.Core.Path.{_≡_, refl, sym, ap, _∙_}
-use mathlib.Core.Bool.{Bool, true, false, cond, true≢false}
+use mathlib.Core.Bool.{Bool, true, false, cond, _&&_, _||_, true≢false}
 use mathlib.Core.List.{List, [], _∷_}
 use lib.Dec.{eqb}
 use lib.ListN.{getD, set}
-use borrow.Author.Tests.{ne-eqb, not-false}
+use borrow.Author.Tests.{ne-eqb, eqb-true, not-true, not-false}
 use native.Mathlib.Omega.{arith}
 use Rattle.flag.specs.Flag.{bit, bitOf, byteOf}
 use Rattle.flag.proofs.Laws.{by-test, cond-same}
 use Rattle.queue.specs.declared.Entry.{Entry}
 use Rattle.queue.specs.declared.EntryQueue.{EntryQueue}
 use Rattle.queue.specs.Queue.{noEntry}
+use Rattle.device.specs.declared.FifoControl.{FifoControl}
 use Rattle.device.specs.declared.Reading.{Reading}
 use Rattle.device.specs.declared.State.{State}
-use Rattle.device.specs.State.{withRegisters, withBaud, withLatches}
+use Rattle.device.specs.State.{withRegisters, withBaud, withFifo, withTx, withRx, withLatches}
 use Rattle.device.specs.Autoflow.{settled}
 use Rattle.device.specs.declared.Registers.{Registers}
 use Rattle.device.specs.declared.Inputs.{Inputs}
 use Rattle.device.specs.Modem.{loopback, effectiveLevels}
 use Rattle.device.specs.Rbr.{oldest, rbrRead}
 use Rattle.device.specs.Thr.{withEmpty, thrWrite}
-use Rattle.device.specs.Fcr.{fcrWrite}
+use Rattle.device.specs.Fcr.{fifoAfter, switched, clearReceive, clearTransmit, fcrWrite}
 use Rattle.device.specs.Iir.{iirRead, interruptCode}
 use Rattle.device.specs.Lsr.{clearErrors, lsrRead}
 use Rattle.device.specs.Msr.{withChanges, withLevels, msrRead}
@@ -156,3 +157,41 @@ write-parts s a b h =
 pub settled-numbers : (s t : State) → t ≡ withNumbers s t → settled t ≡ withNumbers s (settled t)
 unfolding settled
 settled-numbers s t e = ap (λ (u : State). withLatches u (settled t .latches)) e
+
+-- A write that reaches a queue changes the settings of the FIFO, the queues and the latches alone.
+
+-- the state with these parts of another in place of its own
+abbrev pub withQueues : State → State → State
+withQueues s t = withLatches (withRx (withTx (withFifo s (t .fifo)) (t .tx)) (t .rx)) (t .latches)
+
+thr-parts : (s : State) (b : ℕ) → thrWrite s b ≡ withQueues s (thrWrite s b)
+unfolding thrWrite
+thr-parts s b = refl
+
+fcr-parts : (s : State) (b : ℕ) → fcrWrite s b ≡ withQueues s (fcrWrite s b)
+unfolding fcrWrite clearReceive clearTransmit
+fcr-parts s b =
+    let g = fifoAfter (s .registers) (s .fifo) b in
+    go g (switched (s .fifo) g || (bit 0 b && bit 1 b)) (switched (s .fifo) g || (bit 0 b && bit 2 b))
+  where
+    go : (g : FifoControl) (receive transmit : Bool) →
+        (let t = withFifo s g in
+        let u = cond receive (clearReceive t) t in
+        let v = cond transmit (clearTransmit u) u in
+        v ≡ withQueues s v)
+    go g true true = refl
+    go g true false = refl
+    go g false true = refl
+    go g false false = refl
+
+pub queue-parts : (s : State) (a b : ℕ) → reachesQueue s a ≡ true → writeRegister s a b ≡ withQueues s (writeRegister s a b)
+unfolding writeRegister
+queue-parts s a b h = go (eqb a 0) refl
+  where
+    go : (z : Bool) → eqb a 0 ≡ z → writeRegister s a b ≡ withQueues s (writeRegister s a b)
+    go true e = simp (e, not-true (divisorAccess (s .registers)) (simp e at h)) (thr-parts s b)
+    go false e = simp (eqb-true a 2 (simp e at h)) (fcr-parts s b)
+
+pub settled-queues : (s t : State) → t ≡ withQueues s t → settled t ≡ withQueues s (settled t)
+unfolding settled
+settled-queues s t e = ap (λ (u : State). withLatches u (settled t .latches)) e

@@ -1,8 +1,8 @@
 -- What is left to replay from the current state answers as the whole does.
 use mathlib.Core.Bool.{true≢false, cond}
 use Rattle.queue.proofs.Laws.{length-mapped}
-use Rattle.capture.proofs.Laws.{Replaying, replay-turns, replay-agrees, read-step, read-stays, model-byte, numbers-step, write-no-read, no-read, same-byte, other-byte, address-most, withQueues, queue-step, replay-stops}
-use Rattle.registers.proofs.Laws.{withNumbers}
+use Rattle.capture.proofs.Laws.{Replaying, replay-turns, replay-agrees, read-step, read-stays, model-byte, numbers-step, write-no-read, no-read, same-byte, other-byte, address-most, queue-step, replay-stops}
+use Rattle.registers.proofs.Laws.{withNumbers, withQueues}
 use Rattle.invariant.proofs.Good.{good-of}
 use Rattle.device.specs.Calls.{readRegister, readOf}
 use Rattle.registers.specs.Reaching.{reachesQueue}
