@@ -30,7 +30,7 @@ unfoldable pub recordsOf : ℕ → State → List ℕ → Replayed
 recordsOf version s bytes = ended bytes (replayOf version s (wordsOf bytes))
 
 -- the words of the header, and the bytes after it: 8 for a file shorter than the header, then 6 for a bad mark or a
--- nonzero pad; an unknown version is the records'
+-- nonzero pad, then the records of its version, where an unknown one gives 7
 unfoldable pub headedOf : List ℕ → List ℕ → Replayed
 headedOf [] bytes = refused 8 freshOf 0
 headedOf (first ∷ []) bytes = refused 8 freshOf 0

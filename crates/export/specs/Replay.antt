@@ -1,4 +1,4 @@
--- What a replay answers to a client.
+-- What a replay (document 02 a) answers to a client.
 use Rattle.capture.specs.declared.Replayed.{Replayed}
 use Rattle.capture.specs.Replay.{valuesOf}
 use Rattle.export.specs.declared.Replay.{Replay}

@@ -1,4 +1,5 @@
--- The line that says how a replay ended.
+-- The line that says how a replay ended (document 02 a): agreed, or differs with place, byte seen and model's byte, or
+-- refused with number and place, in decimal, one space between.
 use Prim.Native.Nat.{ℕ}
 use mathlib.Core.List.{List, _++_}
 use Rattle.capture.specs.declared.Outcome.{Outcome}

@@ -34,7 +34,7 @@ sin w = w % 2
 abbrev pub modem : ℕ → ℕ
 modem w = w % 2 ^ 4
 
--- what bits 27..0 stay below where no stray bit is set; a record of another kind has none that are good
+-- what bits 27..0 stay below where no stray bit is set; 0 for any other kind, so that no such record is good
 abbrev pub room : ℕ → ℕ
 room k = byKind k (2 ^ 16) (2 ^ 11) (2 ^ 11) 2 (2 ^ 4) 1 0
 
