@@ -8,6 +8,7 @@ use device::State;
 use ranges::well_formed;
 use recorder::file;
 use recorder::record;
+use sheet::answer;
 ghost use mathlib.Core.Path.{_≡_};
 ghost use mathlib.Core.Bool.{true, cond};
 ghost use Rattle.device.specs.Ranges.{wellFormed};
@@ -35,13 +36,6 @@ pub struct Values {
     pub model: u8,
     pub place: usize,
 }
-
-// The numbers of the refusals.
-pub const MALFORMED: u8 = 1;
-
-pub const UNKNOWN_VERSION: u8 = 7;
-
-pub const BAD_RECORD: u8 = 8;
 
 // The number and the values of an outcome.
 pub fn values_of(o: Outcome) -> Values
@@ -84,7 +78,7 @@ fn stopped(s: State, w: u32, place: usize, model: u8) -> Replayed
     ensures { λ r. ⌜ r ≡ cond («good-record» w) («differs-at» s place («byte-of» w) model) («refused-at» 8 s place) ⌝ }
 {
     if !record::good(w) {
-        return refused(BAD_RECORD, s, place);
+        return refused(answer::BAD_RECORD, s, place);
     }
     Replayed {
         state: s,
@@ -168,10 +162,10 @@ pub fn replay(s: State, version: u32, records: &[u32]) -> Replayed
     ensures { λ r. ⌜ (r .outcome ≡ Outcome.Agreed → Agrees s (now (records .entry)) (r .state)) ⌝ }
 {
     if !well_formed(s) {
-        return refused(MALFORMED, s, 0);
+        return refused(answer::MALFORMED, s, 0);
     }
     if !file::known(version) {
-        return refused(UNKNOWN_VERSION, s, 0);
+        return refused(answer::UNKNOWN_VERSION, s, 0);
     }
     replay_records(s, records)
 }

@@ -1,10 +1,10 @@
 // A capture's file, whose bytes come in parts: where it stands is carried from part to part, and
 // the answer is that of the whole file, whatever the parts are.
-use crate::BAD_RECORD;
 use crate::Outcome;
 use crate::Replayed;
 use crate::refused;
 use recorder::file;
+use sheet::answer;
 ghost use mathlib.Core.Path.{_≡_};
 ghost use mathlib.Core.List.{List, [], _++_};
 ghost use mathlib.Core.Bool.{true};
@@ -21,10 +21,6 @@ pub struct Progress {
     pub place: usize,
     pub replayed: Replayed,
 }
-
-pub const BAD_HEADER: u8 = 6;
-
-pub const TOO_SHORT: u8 = 8;
 
 // Whether nothing has differed or been refused.
 pub fn agreeing(o: Outcome) -> bool
@@ -76,12 +72,12 @@ pub fn begin(header: &[u8]) -> Progress
     ensures { λ r. ⌜ r .place ≡ 0 ⌝ }
 {
     if header.len() != 8 {
-        return unread(TOO_SHORT);
+        return unread(answer::BAD_RECORD);
     }
     let mut words = [0u32; 2];
     file::decode(header, &mut words);
     if !file::good_header(words[0], words[1]) {
-        return unread(BAD_HEADER);
+        return unread(answer::BAD_HEADER);
     }
     Progress {
         version: file::version(words[1]),
@@ -135,5 +131,5 @@ pub fn finish(p: Progress, bytes: &[u8], records: &mut [u32]) -> Replayed
         return r;
     }
     let s = r.state;
-    refused(BAD_RECORD, s, q.place)
+    refused(answer::BAD_RECORD, s, q.place)
 }

@@ -6,9 +6,8 @@ use Rattle.flag.specs.Flag.{on, bit}
 use Rattle.device.specs.declared.Registers.{Registers}
 use Rattle.device.specs.declared.FifoControl.{FifoControl}
 use Rattle.device.specs.declared.Inputs.{Inputs}
-use Rattle.device.specs.declared.Latches.{Latches}
 use Rattle.device.specs.declared.State.{State}
-use Rattle.device.specs.State.{withLatches}
+use Rattle.device.specs.State.{withLatches, withChanges, withHold}
 use Rattle.device.specs.Fifo.{triggerLevel}
 use Rattle.device.specs.Modem.{effectiveLevels}
 
@@ -36,12 +35,7 @@ settledHold r f n hold = cond (autoRts r f) (cond (leb (triggerLevel f) n) 1 (co
 -- every step ends by applying these rules
 unfoldable pub settled : State → State
 settled s =
+    let l = s .latches in
     withLatches s
-    (record {
-      empty = s .latches .empty;
-      overrun = s .latches .overrun;
-      timeout = s .latches .timeout;
-      changes = settledChanges (s .registers) (s .fifo) (s .latches .changes);
-      hold = settledHold (s .registers) (s .fifo) (s .rx .count) (s .latches .hold);
-      idle = s .latches .idle;
-    })
+    (withHold (withChanges l (settledChanges (s .registers) (s .fifo) (l .changes)))
+    (settledHold (s .registers) (s .fifo) (s .rx .count) (l .hold)))

@@ -1,11 +1,7 @@
 -- The divisor latches (SLLS191C, "programmable baud generator"; document 01, "Registers").
 use Prim.Native.Nat.{ℕ, _+_, _*_, _/_, _%_}
 use Rattle.device.specs.declared.State.{State}
-use Rattle.device.specs.State.{withBaud}
-
--- writing either divisor byte sets k = the new D
-abbrev pub withDivisor : State → ℕ → State
-withDivisor s d = withBaud s (record { divisor = d; k = d })
+use Rattle.device.specs.State.{withDivisor}
 
 -- the two bytes of D
 abbrev pub divisorLow : State → ℕ
@@ -13,6 +9,8 @@ divisorLow s = s .baud .divisor % 256
 
 abbrev pub divisorHigh : State → ℕ
 divisorHigh s = s .baud .divisor / 256
+
+-- writing either divisor byte sets k = the new D
 
 unfoldable pub divisorLowWrite : State → ℕ → State
 divisorLowWrite s b = withDivisor s (256 * divisorHigh s + b)

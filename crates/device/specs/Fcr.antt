@@ -7,9 +7,8 @@ use Rattle.queue.specs.Queue.{noBytes, noEntries}
 use Rattle.device.specs.declared.Registers.{Registers}
 use Rattle.device.specs.declared.FifoControl.{FifoControl}
 use Rattle.device.specs.declared.State.{State}
-use Rattle.device.specs.State.{withFifo, withTx, withRx, withLatches}
+use Rattle.device.specs.State.{withFifo, withTx, withRx, withLatches, withEmpty}
 use Rattle.device.specs.Rbr.{restartIdle}
-use Rattle.device.specs.Thr.{withEmpty}
 
 -- the settings after a write. Bit 0 clear turns the FIFO off, other bits ignored. Bit 0 set turns it on; bits 7, 6 give
 -- the trigger code, bit 3 the DMA bit, bit 5 the size, only when LCR7 = 1 (else it stays)

@@ -4,13 +4,10 @@ use mathlib.Core.Bool.{Bool, cond, not, _&&_}
 use lib.Dec.{eqb}
 use Rattle.flag.specs.Flag.{bit}
 use Rattle.device.specs.declared.State.{State}
-use Rattle.device.specs.State.{withRegisters, withLatches}
-use Rattle.device.specs.Thr.{withEmpty}
+use Rattle.device.specs.State.{withRegisters, withLatches, withIer, withEmpty}
 
 -- low six bits. Raising bit 1 with the transmit queue empty sets the transmit-empty latch (house rule)
 unfoldable pub ierWrite : State → ℕ → State
 ierWrite s b =
-    withLatches
-    (withRegisters s
-    (record { ier = b % 64; mcr = s .registers .mcr; lcr = s .registers .lcr; scr = s .registers .scr }))
+    withLatches (withRegisters s (withIer (s .registers) (b % 64)))
     (cond (not (bit 1 (s .registers .ier)) && (bit 1 b && eqb (s .tx .count) 0)) (withEmpty (s .latches) 1) (s .latches))

@@ -7,10 +7,9 @@ use Rattle.queue.specs.Queue.{hasError}
 use Rattle.device.specs.declared.FifoControl.{FifoControl}
 use Rattle.device.specs.declared.Reading.{Reading}
 use Rattle.device.specs.declared.State.{State}
-use Rattle.device.specs.State.{withLatches}
+use Rattle.device.specs.State.{withLatches, withEmpty}
 use Rattle.device.specs.Fifo.{triggerLevel}
 use Rattle.device.specs.Rbr.{oldest}
-use Rattle.device.specs.Thr.{withEmpty}
 
 -- receiver line status: IER2 and either OE or an error of the oldest entry
 unfoldable pub lineStatus : State → Bool

@@ -4,7 +4,7 @@ use mathlib.Core.Bool.{Bool}
 use Rattle.flag.specs.Flag.{bit}
 use Rattle.device.specs.declared.Registers.{Registers}
 use Rattle.device.specs.declared.State.{State}
-use Rattle.device.specs.State.{withRegisters}
+use Rattle.device.specs.State.{withRegisters, withLcr}
 
 -- LCR7: addresses 0 and 1 are the divisor latches
 abbrev pub divisorAccess : Registers → Bool
@@ -12,5 +12,4 @@ divisorAccess r = bit 7 (r .lcr)
 
 -- as written
 unfoldable pub lcrWrite : State → ℕ → State
-lcrWrite s b =
-    withRegisters s (record { ier = s .registers .ier; mcr = s .registers .mcr; lcr = b; scr = s .registers .scr })
+lcrWrite s b = withRegisters s (withLcr (s .registers) b)

@@ -7,10 +7,9 @@ use lib.ListN.{set}
 use Rattle.flag.specs.Flag.{on, byteOf}
 use Rattle.queue.specs.declared.EntryQueue.{EntryQueue}
 use Rattle.queue.specs.Queue.{entryErrors}
-use Rattle.device.specs.declared.Latches.{Latches}
 use Rattle.device.specs.declared.Reading.{Reading}
 use Rattle.device.specs.declared.State.{State}
-use Rattle.device.specs.State.{withRx, withLatches}
+use Rattle.device.specs.State.{withRx, withLatches, withOverrun}
 use Rattle.device.specs.Rbr.{oldest}
 
 -- LSR6: transmit queue and shift register are both empty
@@ -39,16 +38,4 @@ clearErrors q =
 -- then OE and the oldest entry's errors are cleared. Errors go with their entry in both modes (house rule)
 unfoldable pub lsrRead : State → Reading
 lsrRead s =
-    record {
-      byte = lsr s;
-      state =
-          withLatches (withRx s (clearErrors (s .rx)))
-          (record {
-            empty = s .latches .empty;
-            overrun = 0;
-            timeout = s .latches .timeout;
-            changes = s .latches .changes;
-            hold = s .latches .hold;
-            idle = s .latches .idle;
-          });
-    }
+    record { byte = lsr s; state = withLatches (withRx s (clearErrors (s .rx))) (withOverrun (s .latches) 0) }

@@ -1,13 +1,9 @@
 -- MCR, modem control register (SLLS191C, "modem control register (MCR)"; document 01, "MCR" and "Loopback").
 use Prim.Native.Nat.{ℕ, _%_}
-use Rattle.device.specs.declared.Registers.{Registers}
 use Rattle.device.specs.declared.State.{State}
-use Rattle.device.specs.State.{withRegisters}
+use Rattle.device.specs.State.{withRegisters, withMcr}
 use Rattle.device.specs.Msr.{withLevels}
 
 -- low six bits; a change of the effective levels made by the write counts as a change
 unfoldable pub mcrWrite : State → ℕ → State
-mcrWrite s b =
-    withLevels s
-    (withRegisters s
-    (record { ier = s .registers .ier; mcr = b % 64; lcr = s .registers .lcr; scr = s .registers .scr }))
+mcrWrite s b = withLevels s (withRegisters s (withMcr (s .registers) (b % 64)))

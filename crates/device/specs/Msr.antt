@@ -1,15 +1,9 @@
 -- MSR, modem status register (SLLS191C, "modem status register (MSR)"; document 01, "MSR read").
 use Prim.Native.Nat.{ℕ, _+_, _*_}
-use Rattle.device.specs.declared.Latches.{Latches}
 use Rattle.device.specs.declared.Reading.{Reading}
 use Rattle.device.specs.declared.State.{State}
-use Rattle.device.specs.State.{withLatches}
+use Rattle.device.specs.State.{withLatches, withChanges}
 use Rattle.device.specs.Modem.{effectiveLevels, changesAfter}
-
--- the change bits as given
-abbrev pub withChanges : Latches → ℕ → Latches
-withChanges l c =
-    record { empty = l .empty; overrun = l .overrun; timeout = l .timeout; changes = c; hold = l .hold; idle = l .idle }
 
 -- the state t that follows s, with the changes of the effective levels between the two
 unfoldable pub withLevels : State → State → State

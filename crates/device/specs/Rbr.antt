@@ -9,7 +9,7 @@ use Rattle.queue.specs.Queue.{noEntry, takeEntry}
 use Rattle.device.specs.declared.Latches.{Latches}
 use Rattle.device.specs.declared.Reading.{Reading}
 use Rattle.device.specs.declared.State.{State}
-use Rattle.device.specs.State.{withRx, withLatches}
+use Rattle.device.specs.State.{withRx, withLatches, withTimeout, withIdle}
 
 -- the oldest received entry, which stands at place 0
 abbrev pub oldest : EntryQueue → Entry
@@ -21,8 +21,7 @@ seen s b = record { byte = b; state = s }
 
 -- time-out latch and idle count 0
 abbrev pub restartIdle : Latches → Latches
-restartIdle l =
-    record { empty = l .empty; overrun = l .overrun; timeout = 0; changes = l .changes; hold = l .hold; idle = 0 }
+restartIdle l = withIdle (withTimeout l 0) 0
 
 -- the oldest byte, which is removed; time-out latch and idle count go to 0. Empty: 0, nothing changes (house rule)
 unfoldable pub rbrRead : State → Reading

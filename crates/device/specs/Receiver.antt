@@ -9,7 +9,7 @@ use Rattle.queue.specs.Queue.{noEntry, putEntry, isFull}
 use Rattle.device.specs.declared.Receiver.{Receiver}
 use Rattle.device.specs.declared.Received.{Received}
 use Rattle.device.specs.declared.State.{State}
-use Rattle.device.specs.State.{withRx, withReceiver, withLatches, idleReceiver}
+use Rattle.device.specs.State.{withRx, withReceiver, withLatches, withOverrun, idleReceiver}
 use Rattle.device.specs.Fifo.{capacity}
 use Rattle.device.specs.Modem.{loopback}
 use Rattle.device.specs.Ranges.{stopPosition, samplesTaken}
@@ -99,16 +99,9 @@ enters s = reception s .ended && not (isFull (capacity (s .fifo)) (s .rx .count)
 -- replaces the old
 unfoldable pub entered : State → Entry → State
 entered s e =
-    let p = putEntry (capacity (s .fifo)) (s .rx) e in
-    withLatches (withRx s (p .queue))
-    (record {
-      empty = s .latches .empty;
-      overrun = cond (p .full) 1 (s .latches .overrun);
-      timeout = s .latches .timeout;
-      changes = s .latches .changes;
-      hold = s .latches .hold;
-      idle = s .latches .idle;
-    })
+    let c = capacity (s .fifo) in
+    withLatches (withRx s (putEntry c (s .rx) e))
+    (withOverrun (s .latches) (cond (isFull c (s .rx .count)) 1 (s .latches .overrun)))
 
 -- what a pulse made of the receiver, and the entry of a character that ended
 unfoldable pub accepted : State → Received → State

@@ -6,7 +6,7 @@ use lib.ListN.{replicate}
 use Rattle.frame.specs.Format.{frameLength, parityBit}
 use Rattle.device.specs.declared.State.{State}
 use Rattle.device.specs.declared.Forecasted.{Forecasted}
-use Rattle.device.specs.State.{withRegisters, withBaud, withFifo, withTx, withFrame, freshOf}
+use Rattle.device.specs.State.{withRegisters, withLcr, withBaud, withFifo, withTx, withFrame, freshOf}
 use Rattle.device.specs.Calls.{readOf, writeOf, modemOf}
 use Rattle.device.specs.Forecast.{forecastOf}
 
@@ -24,7 +24,7 @@ sending lcr d k fifo n l =
     withFrame
     (withTx
     (withFifo
-    (withBaud (withRegisters freshOf (record { ier = 0; mcr = 0; lcr = lcr; scr = 0 })) (record { divisor = d; k = k }))
+    (withBaud (withRegisters freshOf (withLcr (freshOf .registers) lcr)) (record { divisor = d; k = k }))
     (record { enabled = fifo; size = 0; dma = 0; trigger = 0 }))
     (record { bytes = replicate 64 0; count = n }))
     (record { left = l; byte = 0; format = 0 })

@@ -1,9 +1,8 @@
 -- SCR, scratch register (SLLS191C, "scratch register"; document 01, "LCR, SCR as written").
 use Prim.Native.Nat.{ℕ}
 use Rattle.device.specs.declared.State.{State}
-use Rattle.device.specs.State.{withRegisters}
+use Rattle.device.specs.State.{withRegisters, withScr}
 
 -- as written
 unfoldable pub scrWrite : State → ℕ → State
-scrWrite s b =
-    withRegisters s (record { ier = s .registers .ier; mcr = s .registers .mcr; lcr = s .registers .lcr; scr = b })
+scrWrite s b = withRegisters s (withScr (s .registers) b)

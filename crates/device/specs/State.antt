@@ -51,6 +51,54 @@ abbrev pub withLatches : State → Latches → State
 withLatches s p =
     record { registers = s .registers; baud = s .baud; fifo = s .fifo; inputs = s .inputs; tx = s .tx; frame = s .frame; rx = s .rx; receiver = s .receiver; latches = p }
 
+-- The registers with one of them put in place of the old.
+
+abbrev pub withIer : Registers → ℕ → Registers
+withIer r b = record { ier = b; mcr = r .mcr; lcr = r .lcr; scr = r .scr }
+
+abbrev pub withMcr : Registers → ℕ → Registers
+withMcr r b = record { ier = r .ier; mcr = b; lcr = r .lcr; scr = r .scr }
+
+abbrev pub withLcr : Registers → ℕ → Registers
+withLcr r b = record { ier = r .ier; mcr = r .mcr; lcr = b; scr = r .scr }
+
+abbrev pub withScr : Registers → ℕ → Registers
+withScr r b = record { ier = r .ier; mcr = r .mcr; lcr = r .lcr; scr = b }
+
+-- The latches with one of them put in place of the old.
+
+abbrev pub withEmpty : Latches → ℕ → Latches
+withEmpty l e =
+    record { empty = e; overrun = l .overrun; timeout = l .timeout; changes = l .changes; hold = l .hold; idle = l .idle }
+
+abbrev pub withOverrun : Latches → ℕ → Latches
+withOverrun l o =
+    record { empty = l .empty; overrun = o; timeout = l .timeout; changes = l .changes; hold = l .hold; idle = l .idle }
+
+abbrev pub withTimeout : Latches → ℕ → Latches
+withTimeout l t =
+    record { empty = l .empty; overrun = l .overrun; timeout = t; changes = l .changes; hold = l .hold; idle = l .idle }
+
+abbrev pub withChanges : Latches → ℕ → Latches
+withChanges l c =
+    record { empty = l .empty; overrun = l .overrun; timeout = l .timeout; changes = c; hold = l .hold; idle = l .idle }
+
+abbrev pub withHold : Latches → ℕ → Latches
+withHold l h =
+    record { empty = l .empty; overrun = l .overrun; timeout = l .timeout; changes = l .changes; hold = h; idle = l .idle }
+
+abbrev pub withIdle : Latches → ℕ → Latches
+withIdle l n =
+    record { empty = l .empty; overrun = l .overrun; timeout = l .timeout; changes = l .changes; hold = l .hold; idle = n }
+
+-- The baud generator with k, or with the divisor D and k = D.
+
+abbrev pub withK : State → ℕ → State
+withK s k = withBaud s (record { divisor = s .baud .divisor; k = k })
+
+abbrev pub withDivisor : State → ℕ → State
+withDivisor s d = withBaud s (record { divisor = d; k = d })
+
 -- no frame is sent
 abbrev pub noFrame : Frame
 noFrame = record { left = 0; byte = 0; format = 0 }
@@ -81,14 +129,5 @@ freshOf =
 -- Reset gives the fresh state but keeps SCR, D and both pin inputs, and sets k = D.
 unfoldable pub resetState : State → State
 resetState s =
-    record {
-      registers = record { ier = 0; mcr = 0; lcr = 0; scr = s .registers .scr };
-      baud = record { divisor = s .baud .divisor; k = s .baud .divisor };
-      fifo = record { enabled = 0; size = 0; dma = 0; trigger = 0 };
-      inputs = s .inputs;
-      tx = noBytes;
-      frame = noFrame;
-      rx = noEntries;
-      receiver = idleReceiver;
-      latches = noLatches;
-    }
+    let registers = withScr (freshOf .registers) (s .registers .scr) in
+    withInputs (withDivisor (withRegisters freshOf registers) (s .baud .divisor)) (s .inputs)

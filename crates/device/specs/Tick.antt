@@ -3,7 +3,7 @@ use Prim.Native.Nat.{ℕ, _-_}
 use mathlib.Core.Bool.{cond}
 use lib.Dec.{eqb}
 use Rattle.device.specs.declared.State.{State}
-use Rattle.device.specs.State.{withBaud}
+use Rattle.device.specs.State.{withK}
 use Rattle.device.specs.Transmitter.{transmitted}
 use Rattle.device.specs.Receiver.{enters, received}
 use Rattle.device.specs.Idle.{idled}
@@ -13,10 +13,6 @@ unfoldable pub pulsed : State → State
 pulsed s =
     let t = transmitted s in
     idled (enters t) (received t)
-
--- k as given
-abbrev pub withK : State → ℕ → State
-withK s k = withBaud s (record { divisor = s .baud .divisor; k = k })
 
 -- if D = 0 nothing changes; else k falls by 1, and at 0 it becomes D and one pulse happens
 unfoldable pub ticked : State → State

@@ -5,6 +5,7 @@ use crate::Registers;
 use crate::State;
 use crate::fifo;
 use crate::modem;
+use sheet::bits;
 ghost use mathlib.Core.Path.{_≡_};
 ghost use Rattle.device.specs.Autoflow.{autoflow as «autoflow-of», autoRts, held as «held-of», settledChanges, settledHold, settled};
 
@@ -12,14 +13,14 @@ ghost use Rattle.device.specs.Autoflow.{autoflow as «autoflow-of», aut
 pub fn autoflow(r: Registers, f: FifoControl) -> bool
     ensures { λ a. ⌜ a ≡ «autoflow-of» r f ⌝ }
 {
-    flag::both(flag::has(r.mcr, modem::MCR_AUTOFLOW), f.enabled == 1)
+    flag::both(flag::has(r.mcr, bits::MCR_AFE), f.enabled == 1)
 }
 
 // Whether auto-RTS is on.
 pub fn auto_rts(r: Registers, f: FifoControl) -> bool
     ensures { λ a. ⌜ a ≡ autoRts r f ⌝ }
 {
-    flag::both(autoflow(r, f), flag::has(r.mcr, modem::MCR_RTS))
+    flag::both(autoflow(r, f), flag::has(r.mcr, bits::MCR_RTS))
 }
 
 // Whether flow control holds the transmitter.
@@ -28,7 +29,7 @@ pub fn held(r: Registers, f: FifoControl, i: Inputs) -> bool
 {
     flag::both(
         autoflow(r, f),
-        !flag::has(modem::effective_levels(r, i), modem::CTS),
+        !flag::has(modem::effective_levels(r, i), bits::CTS),
     )
 }
 

@@ -10,7 +10,7 @@ pub mod sampling;
 use queue::ByteQueue;
 use queue::EntryQueue;
 ghost use mathlib.Core.Path.{_≡_};
-ghost use Rattle.device.specs.State.{freshOf, resetState, withInputs};
+ghost use Rattle.device.specs.State.{freshOf, resetState, withInputs, withEmpty};
 
 // The registers that keep what is written to them.
 #[repr(C)]
@@ -206,20 +206,15 @@ pub fn fresh() -> State
 pub fn reset(s: State) -> State
     ensures { λ r. ⌜ r ≡ resetState s ⌝ }
 {
-    let registers = Registers {
-        ier: 0,
-        mcr: 0,
-        lcr: 0,
-        scr: s.registers.scr,
-    };
     let divisor = s.baud.divisor;
     let baud = Baud {
         divisor,
         k: divisor,
     };
     let inputs = s.inputs;
+    let scr = s.registers.scr;
     let mut next = fresh();
-    next.registers = registers;
+    next.registers.scr = scr;
     next.baud = baud;
     next.inputs = inputs;
     next
@@ -232,5 +227,14 @@ pub fn with_inputs(s: State, modem: u8, sin: u8) -> State
     let i = Inputs { modem, sin };
     let mut next = s;
     next.inputs = i;
+    next
+}
+
+// The latches with the transmit-empty latch as given.
+pub fn with_empty(l: Latches, empty: u8) -> Latches
+    ensures { λ r. ⌜ r ≡ withEmpty l empty ⌝ }
+{
+    let mut next = l;
+    next.empty = empty;
     next
 }

@@ -1,6 +1,7 @@
 // The modem inputs: effective levels, loopback, change bits.
 use crate::Inputs;
 use crate::Registers;
+use sheet::bits;
 ghost use mathlib.Core.Path.{_≡_};
 ghost use Prim.Native.Nat.{_<_, _/_, _%_};
 ghost use mathlib.Core.Bool.{_||_};
@@ -8,33 +9,11 @@ ghost use lib.Dec.{eqb};
 ghost use Rattle.flag.specs.Flag.{differ};
 ghost use Rattle.device.specs.Modem.{loopback as «loopback-of», effectiveLevels, changesAfter};
 
-// The bits of MCR.
-pub const MCR_DTR: u8 = 0x01;
-
-pub const MCR_RTS: u8 = 0x02;
-
-pub const MCR_OUT1: u8 = 0x04;
-
-pub const MCR_OUT2: u8 = 0x08;
-
-pub const MCR_LOOPBACK: u8 = 0x10;
-
-pub const MCR_AUTOFLOW: u8 = 0x20;
-
-// The modem inputs, as the pins and the change bits have them.
-pub const CTS: u8 = 0x01;
-
-pub const DSR: u8 = 0x02;
-
-pub const RI: u8 = 0x04;
-
-pub const DCD: u8 = 0x08;
-
 // Whether loopback is on.
 pub fn loopback(r: Registers) -> bool
     ensures { λ l. ⌜ l ≡ «loopback-of» r ⌝ }
 {
-    flag::has(r.mcr, MCR_LOOPBACK)
+    flag::has(r.mcr, bits::MCR_LOOP)
 }
 
 // The effective levels of the modem inputs.
@@ -42,14 +21,14 @@ pub fn effective_levels(r: Registers, i: Inputs) -> u8
     ensures { λ l. ⌜ l ≡ effectiveLevels r i ⌝ }
 {
     let mcr = r.mcr;
-    if !flag::has(mcr, MCR_LOOPBACK) {
+    if !flag::has(mcr, bits::MCR_LOOP) {
         return i.modem;
     }
     flag::nibble(
-        flag::has(mcr, MCR_RTS),
-        flag::has(mcr, MCR_DTR),
-        flag::has(mcr, MCR_OUT1),
-        flag::has(mcr, MCR_OUT2),
+        flag::has(mcr, bits::MCR_RTS),
+        flag::has(mcr, bits::MCR_DTR),
+        flag::has(mcr, bits::MCR_OUT1),
+        flag::has(mcr, bits::MCR_OUT2),
     )
 }
 
@@ -69,11 +48,11 @@ fn moved(changes: u8, from: u8, to: u8, input: u8) -> bool
 pub fn changes_after(changes: u8, from: u8, to: u8) -> u8
     ensures { λ r. ⌜ (r ≡ changesAfter changes «from» to) × (r < 16) ⌝ }
 {
-    let ring = flag::both(flag::has(from, RI), !flag::has(to, RI));
+    let ring = flag::both(flag::has(from, bits::RI), !flag::has(to, bits::RI));
     flag::nibble(
-        moved(changes, from, to, CTS),
-        moved(changes, from, to, DSR),
-        flag::either(flag::has(changes, RI), ring),
-        moved(changes, from, to, DCD),
+        moved(changes, from, to, bits::CTS),
+        moved(changes, from, to, bits::DSR),
+        flag::either(flag::has(changes, bits::RI), ring),
+        moved(changes, from, to, bits::DCD),
     )
 }

@@ -1,20 +1,12 @@
 // Frames: what a format (bits 0..5 of LCR) makes of a byte on the line.
 //
 // Numbers and lists only. The contracts cite `specs/Format.antt` and `specs/Frame.antt`.
+use sheet::bits;
 ghost use mathlib.Core.Path.{_≡_};
 ghost use Prim.Native.Nat.{_≤_, _<_, _+_, _*_, _/_, _%_};
 ghost use lib.ListN.{getD};
 ghost use Rattle.frame.specs.Format.{dataBits, parityBits, stopPulses, frameLength, characterOf, ones, parityBit};
 ghost use Rattle.frame.specs.Frame.{frameLevels, lineLevel};
-
-// The bits of a format, as LCR has them.
-pub const LCR_STOP: u8 = 0x04;
-
-pub const LCR_PARITY: u8 = 0x08;
-
-pub const LCR_EVEN: u8 = 0x10;
-
-pub const LCR_STICK: u8 = 0x20;
 
 // Data bits, 5 to 8.
 pub fn data_bits(format: u8) -> u32
@@ -27,14 +19,14 @@ pub fn data_bits(format: u8) -> u32
 pub fn parity_bits(format: u8) -> u32
     ensures { λ r. ⌜ (r ≡ parityBits format) × (r ≤ 1) ⌝ }
 {
-    (format / LCR_PARITY % 2) as u32
+    (format / bits::LCR_PARITY % 2) as u32
 }
 
 // Pulses of the stop.
 fn stop_pulses(format: u8) -> u32
     ensures { λ r. ⌜ (r ≡ stopPulses format) × (r ≤ 32) ⌝ }
 {
-    if !flag::has(format, LCR_STOP) {
+    if !flag::has(format, bits::LCR_STOP) {
         return 16;
     }
     if data_bits(format) == 5 {
@@ -74,8 +66,8 @@ fn ones_of(x: u8) -> u8
 pub fn parity_bit(byte: u8, format: u8) -> u8
     ensures { λ r. ⌜ (r ≡ parityBit byte format) × (r < 2) ⌝ }
 {
-    let even = flag::has(format, LCR_EVEN);
-    if flag::has(format, LCR_STICK) {
+    let even = flag::has(format, bits::LCR_EPAR);
+    if flag::has(format, bits::LCR_SPAR) {
         return flag::bit(!even);
     }
     let x = character(byte, format);
@@ -98,7 +90,7 @@ pub fn frame_level(byte: u8, format: u8, place: u32) -> u8
         return (byte >> (at - 1)) % 2;
     }
     if at == last + 1 {
-        if flag::has(format, LCR_PARITY) {
+        if flag::has(format, bits::LCR_PARITY) {
             return parity_bit(byte, format);
         }
         return 1;

@@ -1,6 +1,7 @@
 // The idle count's part of a pulse.
 use device::Latches;
 use device::State;
+use sheet::limits;
 ghost use mathlib.Core.Path.{_≡_};
 ghost use mathlib.Core.Bool.{cond, not, _||_};
 ghost use Prim.Native.Nat.{_≤_, _+_, _*_, min};
@@ -9,9 +10,6 @@ ghost use Rattle.flag.specs.Flag.{on};
 ghost use Rattle.frame.specs.Format.{formatOf, frameLength};
 ghost use Rattle.device.specs.Idle.{withIdle, idled};
 ghost use Rattle.line.specs.Quiet.{counted as «counted-of», timeOutAt};
-
-// The idle count stops here.
-const MOST: u32 = 769;
 
 // The idle count that times out: four frames in the format of LCR.
 pub fn limit(lcr: u8) -> u32
@@ -25,7 +23,7 @@ fn one_more(n: u32) -> u32
     requires { ⌜ n ≤ 769 ⌝ }
     ensures { λ r. ⌜ r ≡ min (n + 1) 769 ⌝ }
 {
-    if n < MOST { n + 1 } else { n }
+    if n < limits::IDLE_MOST { n + 1 } else { n }
 }
 
 // The time-out latch at an idle count: above the limit it is set.

@@ -14,7 +14,7 @@ use borrow.Author.Tests.{lt-ltb, le-ltb, le-leb, leb-true, not-true, not-false}
 use Rattle.flag.specs.Flag.{allOf, anyOf}
 use Rattle.flag.proofs.Laws.{and-left, and-right}
 use Rattle.queue.specs.declared.ByteQueue.{ByteQueue}
-use Rattle.queue.specs.Queue.{placesPut, countPut, isFull, shifted, contents, putByte}
+use Rattle.queue.specs.Queue.{placesPut, countPut, isFull, shifted, contents}
 
 -- the length of an array of structs, from what owning it tells
 pub length-mapped : {A B : Type 0} (f : A → B) (xs : List A) (n : ℕ) → length (map f xs) ≡ n → length xs ≡ n
@@ -129,23 +129,23 @@ module _ {A : Type 0} {n : ℕ} {xs ys : List A} {i : ℕ} where
       ∙ set-at (take i (drop 1 xs)) (getD xs i z) (drop (i + 1) xs) z i (filled w)
       ∙ rw (take-all i (drop 1 xs) m, drop-of-length-le xs k)
 
--- A put of a byte: a full queue of more than one place keeps its bytes; else the byte has its place.
+-- A put: a full queue of more than one place keeps its places; else what is put has its place.
 
-pub put-kept : (c : ℕ) (q : ByteQueue) (b : ℕ) → (leb c (q .count) && not (eqb c 1)) ≡ true → record { queue = q; full = leb c (q .count) } ≡ putByte c q b
-unfolding putByte placesPut countPut isFull
-put-kept c q b e =
-    let full : c ≤ q .count = leb-true c (q .count) (and-left (leb c (q .count)) (not (eqb c 1)) e) in
-    let more : eqb c 1 ≡ false = not-true (eqb c 1) (and-right (leb c (q .count)) (not (eqb c 1)) e) in
-    simp (le-ltb (q .count) c full, more)
+module _ {A : Type 0} (c n : ℕ) (xs : List A) (v : A) where
+  pub put-keeps : (leb c n && not (eqb c 1)) ≡ true → (placesPut c n xs v ≡ xs) × (countPut c n ≡ n)
+  unfolding placesPut countPut
+  put-keeps e =
+      let full : c ≤ n = leb-true c n (and-left (leb c n) (not (eqb c 1)) e) in
+      let more : eqb c 1 ≡ false = not-true (eqb c 1) (and-right (leb c n) (not (eqb c 1)) e) in
+      (simp (le-ltb n c full, more), simp (le-ltb n c full))
 
-pub put-placed : (c : ℕ) (q : ByteQueue) (b : ℕ) → (leb c (q .count) && not (eqb c 1)) ≡ false →
-    record { queue = record { bytes = set (q .bytes) (cond (ltb (q .count) c) (q .count) 0) b; count = countPut c (q .count) }; full = leb c (q .count) } ≡ putByte c q b
-unfolding putByte placesPut isFull
-put-placed c q b e =
-    elim (decLt (q .count) c) [
-      | yes h ↦ simp (lt-ltb (q .count) c h)
-      | no h ↦
-          let full : c ≤ q .count = omega (arith, h) in
-          let one : eqb c 1 ≡ true = not-false (eqb c 1) (simp (le-leb c (q .count) full) at e) in
-          simp (le-ltb (q .count) c full, one)
-    ]
+  pub put-places : (leb c n && not (eqb c 1)) ≡ false → placesPut c n xs v ≡ set xs (cond (ltb n c) n 0) v
+  unfolding placesPut
+  put-places e =
+      elim (decLt n c) [
+        | yes h ↦ simp (lt-ltb n c h)
+        | no h ↦
+            let full : c ≤ n = omega (arith, h) in
+            let one : eqb c 1 ≡ true = not-false (eqb c 1) (simp (le-leb c n full) at e) in
+            simp (le-ltb n c full, one)
+      ]

@@ -8,10 +8,8 @@ use lib.ListN.{take, drop, set, replicate}
 use lib.Dec.{ltb, leb, eqb}
 use Rattle.flag.specs.Flag.{on, allOf, anyOf}
 use Rattle.queue.specs.declared.ByteQueue.{ByteQueue}
-use Rattle.queue.specs.declared.BytePut.{BytePut}
 use Rattle.queue.specs.declared.Entry.{Entry}
 use Rattle.queue.specs.declared.EntryQueue.{EntryQueue}
-use Rattle.queue.specs.declared.EntryPut.{EntryPut}
 
 -- A queue of capacity c whose n first places are in use.
 
@@ -43,12 +41,8 @@ unfoldable pub noBytes : ByteQueue
 noBytes = record { bytes = replicate 64 0; count = 0 }
 
 -- a byte is put into a queue of capacity c
-unfoldable pub putByte : ℕ → ByteQueue → ℕ → BytePut
-putByte c q b =
-    record {
-      queue = record { bytes = placesPut c (q .count) (q .bytes) b; count = countPut c (q .count) };
-      full = isFull c (q .count);
-    }
+unfoldable pub putByte : ℕ → ByteQueue → ℕ → ByteQueue
+putByte c q b = record { bytes = placesPut c (q .count) (q .bytes) b; count = countPut c (q .count) }
 
 -- the oldest byte is taken
 unfoldable pub takeByte : ByteQueue → ByteQueue
@@ -73,12 +67,8 @@ unfoldable pub noEntries : EntryQueue
 noEntries = record { entries = replicate 64 noEntry; count = 0 }
 
 -- an entry is put into a queue of capacity c
-unfoldable pub putEntry : ℕ → EntryQueue → Entry → EntryPut
-putEntry c q e =
-    record {
-      queue = record { entries = placesPut c (q .count) (q .entries) e; count = countPut c (q .count) };
-      full = isFull c (q .count);
-    }
+unfoldable pub putEntry : ℕ → EntryQueue → Entry → EntryQueue
+putEntry c q e = record { entries = placesPut c (q .count) (q .entries) e; count = countPut c (q .count) }
 
 -- the oldest entry is taken
 unfoldable pub takeEntry : EntryQueue → EntryQueue

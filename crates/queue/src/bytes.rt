@@ -1,13 +1,12 @@
 // The queue of bytes.
-use crate::BytePut;
 use crate::ByteQueue;
-use crate::LAST;
-use crate::PLACES;
+use crate::count_after;
+use crate::keeps;
+use crate::next_place;
+use sheet::limits;
 ghost use mathlib.Core.Path.{_≡_};
 ghost use Prim.Native.Nat.{_<_, _≤_};
-ghost use mathlib.Core.Bool.{cond};
-ghost use lib.Dec.{ltb};
-ghost use Rattle.queue.specs.Queue.{countPut, putByte, takeByte, noBytes, shifted, byteRest};
+ghost use Rattle.queue.specs.Queue.{putByte, takeByte, noBytes, shifted, byteRest};
 
 // The queue with no bytes.
 pub fn clear() -> ByteQueue
@@ -19,39 +18,22 @@ pub fn clear() -> ByteQueue
     }
 }
 
-// Where the next byte goes: behind the last one, or to the first place of a full queue.
-fn next_place(count: u32, capacity: u32) -> usize
-    requires { ⌜ capacity ≤ 64 ⌝ }
-    ensures { λ r. ⌜ (r ≡ cond (ltb count capacity) count 0) × (r < 64) ⌝ }
-{
-    if count < capacity { count as usize } else { 0 }
-}
-
-// The count after a put.
-fn count_after(count: u32, capacity: u32) -> u32
-    requires { ⌜ capacity ≤ 64 ⌝ }
-    ensures { λ r. ⌜ r ≡ countPut capacity count ⌝ }
-{
-    if count < capacity { count + 1 } else { count }
-}
-
 // The queue of this capacity with b behind the last byte. A full one keeps its bytes, but a queue
 // of one place has its byte replaced. There is one store, at a computed place: with a second one at
 // place 0 the compiler copies the queue in two parts.
-pub fn put(q: ByteQueue, capacity: u32, b: u8) -> BytePut
+pub fn put(q: ByteQueue, capacity: u32, b: u8) -> ByteQueue
     requires { ⌜ capacity ≤ 64 ⌝ }
     ensures { λ r. ⌜ r ≡ putByte capacity q b ⌝ }
 {
     let mut next = q;
     let count = next.count;
-    let full = capacity <= count;
-    if flag::both(full, capacity != 1) {
-        return BytePut { queue: next, full };
+    if keeps(count, capacity) {
+        return next;
     }
     let at = next_place(count, capacity);
     next.bytes[at] = b;
     next.count = count_after(count, capacity);
-    BytePut { queue: next, full }
+    next
 }
 
 // The bytes one place down, the oldest gone and the last place zero.
@@ -60,11 +42,11 @@ fn shift(bytes: [u8; 64]) -> [u8; 64]
 {
     let mut next = bytes;
     let mut i: usize = 0;
-    while i < LAST {
+    while i < limits::LAST_PLACE {
         next[i] = next[i + 1];
         i += 1;
     }
-    next[LAST] = 0;
+    next[limits::LAST_PLACE] = 0;
     next
 }
 
@@ -87,7 +69,7 @@ pub fn rest_is_zero(q: ByteQueue) -> bool
 {
     let mut zero = true;
     let mut i = q.count as usize;
-    while i < PLACES {
+    while i < limits::PLACES {
         zero = flag::both(zero, q.bytes[i] == 0);
         i += 1;
     }

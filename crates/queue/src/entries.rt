@@ -1,9 +1,10 @@
 // The queue of received entries.
 use crate::Entry;
-use crate::EntryPut;
 use crate::EntryQueue;
-use crate::LAST;
-use crate::PLACES;
+use crate::count_after;
+use crate::keeps;
+use crate::next_place;
+use sheet::limits;
 ghost use mathlib.Core.Path.{_≡_};
 ghost use Prim.Native.Nat.{_<_, _≤_, min};
 ghost use Rattle.queue.specs.Queue.{putEntry, takeEntry, noEntries, noEntry, zeroEntry, shifted, entryRest, flagsInRange, entryFlags, hasError, entryErrors};
@@ -33,32 +34,19 @@ pub fn clear() -> EntryQueue
 
 // The queue of this capacity with e behind the last entry. A full one keeps its entries, but a
 // queue of one place has its entry replaced.
-pub fn put(q: EntryQueue, capacity: u32, e: Entry) -> EntryPut
+pub fn put(q: EntryQueue, capacity: u32, e: Entry) -> EntryQueue
     requires { ⌜ capacity ≤ 64 ⌝ }
     ensures { λ r. ⌜ r ≡ putEntry capacity q e ⌝ }
 {
     let mut next = q;
     let count = next.count;
-    if count < capacity {
-        let at = count as usize;
-        next.entries[at] = e;
-        next.count = count + 1;
-        return EntryPut {
-            queue: next,
-            full: false,
-        };
+    if keeps(count, capacity) {
+        return next;
     }
-    if capacity == 1 {
-        next.entries[0] = e;
-        return EntryPut {
-            queue: next,
-            full: true,
-        };
-    }
-    EntryPut {
-        queue: next,
-        full: true,
-    }
+    let at = next_place(count, capacity);
+    next.entries[at] = e;
+    next.count = count_after(count, capacity);
+    next
 }
 
 // The entries one place down, the oldest gone and the last place zero.
@@ -68,12 +56,12 @@ fn shift(entries: [Entry; 64]) -> [Entry; 64]
     let e = none();
     let mut next = entries;
     let mut i: usize = 0;
-    while i < LAST {
+    while i < limits::LAST_PLACE {
         let x = next[i + 1];
         next[i] = x;
         i += 1;
     }
-    next[LAST] = e;
+    next[limits::LAST_PLACE] = e;
     next
 }
 
@@ -138,7 +126,7 @@ pub fn rest_is_zero(q: EntryQueue) -> bool
 {
     let mut zero = true;
     let mut i = q.count as usize;
-    while i < PLACES {
+    while i < limits::PLACES {
         let e = q.entries[i];
         zero = flag::both(zero, is_zero(e));
         i += 1;
@@ -152,7 +140,7 @@ pub fn flags_are_bits(q: EntryQueue) -> bool
 {
     let mut bits = true;
     let mut i: usize = 0;
-    while i < PLACES {
+    while i < limits::PLACES {
         let e = q.entries[i];
         bits = flag::both(bits, flags_in_range(e));
         i += 1;
@@ -164,7 +152,11 @@ pub fn flags_are_bits(q: EntryQueue) -> bool
 fn places_in_use(count: u32) -> usize
     ensures { λ r. ⌜ r ≡ min count 64 ⌝ }
 {
-    if count < 64 { count as usize } else { PLACES }
+    if count < 64 {
+        count as usize
+    } else {
+        limits::PLACES
+    }
 }
 
 // Whether some entry in the queue has an error.

@@ -7,22 +7,17 @@
 pub mod bytes;
 pub mod entries;
 
-// The places of a queue, and the last of them.
-pub const PLACES: usize = 64;
-
-pub const LAST: usize = 63;
+ghost use mathlib.Core.Path.{_≡_};
+ghost use mathlib.Core.Bool.{cond, not, _&&_};
+ghost use Prim.Native.Nat.{_<_, _≤_};
+ghost use lib.Dec.{leb, ltb, eqb};
+ghost use Rattle.queue.specs.Queue.{countPut};
 
 // The transmit queue.
 #[repr(C)]
 pub struct ByteQueue {
     pub bytes: [u8; 64],
     pub count: u32,
-}
-
-// What putting a byte gives: the queue, and whether it was full.
-pub struct BytePut {
-    pub queue: ByteQueue,
-    pub full: bool,
 }
 
 // A received character with its error flags, each 0 or 1.
@@ -41,8 +36,25 @@ pub struct EntryQueue {
     pub count: u32,
 }
 
-// What putting an entry gives: the queue, and whether it was full.
-pub struct EntryPut {
-    pub queue: EntryQueue,
-    pub full: bool,
+// Whether a queue of this capacity keeps its places at a put: it is full, and has more than one.
+fn keeps(count: u32, capacity: u32) -> bool
+    ensures { λ r. ⌜ r ≡ (leb capacity count && not (eqb capacity 1)) ⌝ }
+{
+    flag::both(capacity <= count, capacity != 1)
+}
+
+// Where the next one goes: behind the last one, or to the first place of a full queue.
+fn next_place(count: u32, capacity: u32) -> usize
+    requires { ⌜ capacity ≤ 64 ⌝ }
+    ensures { λ r. ⌜ (r ≡ cond (ltb count capacity) count 0) × (r < 64) ⌝ }
+{
+    if count < capacity { count as usize } else { 0 }
+}
+
+// The count after a put.
+fn count_after(count: u32, capacity: u32) -> u32
+    requires { ⌜ capacity ≤ 64 ⌝ }
+    ensures { λ r. ⌜ r ≡ countPut capacity count ⌝ }
+{
+    if count < capacity { count + 1 } else { count }
 }

@@ -9,38 +9,19 @@ use device::Registers;
 use device::State;
 use device::autoflow;
 use device::fifo;
-use device::modem;
 use device::sampling;
 use flag::both;
 use flag::either;
 use queue::ByteQueue;
 use queue::EntryQueue;
+use sheet::bits;
+use sheet::limits;
 ghost use mathlib.Core.Path.{_≡_};
 ghost use mathlib.Core.Bool.{cond, _&&_};
 ghost use Prim.Native.Nat.{_-_, _^_, _≤_, min};
 ghost use lib.Dec.{leb, ltb, eqb};
 ghost use Rattle.flag.specs.Flag.{every, implies as «implies-of»};
 ghost use Rattle.device.specs.Ranges.{registerRanges, settingRanges, transmitRanges, receiveRanges, latchRanges, queueLatchRanges, flowLatchRanges, characterRanges, outsideRanges, stopPosition, samplesTaken, wellFormed};
-
-pub const IER_MAX: u8 = 63;
-
-pub const MCR_MAX: u8 = 63;
-
-pub const DIVISOR_MAX: u32 = 65535;
-
-pub const TRIGGER_MAX: u8 = 3;
-
-pub const MODEM_MAX: u8 = 15;
-
-pub const SIN_MAX: u8 = 1;
-
-pub const FRAME_MAX: u32 = 192;
-
-pub const FORMAT_MAX: u8 = 63;
-
-pub const IDLE_MAX: u32 = 769;
-
-pub const CHANGES_MAX: u8 = 15;
 
 // Where a holds, b does.
 fn implies(a: bool, b: bool) -> bool
@@ -65,10 +46,10 @@ pub fn registers_in_range(r: Registers, b: Baud) -> bool
     ensures { λ t. ⌜ t ≡ every (registerRanges r b) ⌝ }
 {
     both(
-        r.ier <= IER_MAX,
+        r.ier <= limits::IER_MOST,
         both(
-            r.mcr <= MCR_MAX,
-            both(b.divisor <= DIVISOR_MAX, k_in_range(b)),
+            r.mcr <= limits::MCR_MOST,
+            both(b.divisor <= limits::DIVISOR_MOST, k_in_range(b)),
         ),
     )
 }
@@ -84,8 +65,8 @@ pub fn settings_in_range(f: FifoControl, i: Inputs) -> bool
             both(
                 f.dma <= 1,
                 both(
-                    f.trigger <= TRIGGER_MAX,
-                    both(i.modem <= MODEM_MAX, i.sin <= SIN_MAX),
+                    f.trigger <= limits::TRIGGER_MOST,
+                    both(i.modem <= limits::MODEM_MOST, i.sin <= limits::SIN_MOST),
                 ),
             ),
         ),
@@ -109,9 +90,9 @@ pub fn transmit_in_range(f: FifoControl, q: ByteQueue, x: Frame) -> bool
         both(
             queue::bytes::rest_is_zero(q),
             both(
-                left <= FRAME_MAX,
+                left <= limits::LEFT_MOST,
                 both(
-                    x.format <= FORMAT_MAX,
+                    x.format <= limits::FORMAT_MOST,
                     both(left <= frame::frame_length(x.format), frame_in_range(x)),
                 ),
             ),
@@ -155,7 +136,7 @@ fn character_in_range(v: Receiver) -> bool
     let bits = frame::data_bits(format);
     let parity = smaller(frame::parity_bits(format), after(taken, bits));
     both(
-        format <= FORMAT_MAX,
+        format <= limits::FORMAT_MOST,
         both(
             position < sampling::stop_position(format),
             both(
@@ -219,7 +200,7 @@ fn queue_latches_in_range(f: FifoControl, m: u32, n: u32, l: Latches) -> bool
                     both(
                         implies(l.timeout == 1, both(on, 0 < n)),
                         both(
-                            l.idle <= IDLE_MAX,
+                            l.idle <= limits::IDLE_MOST,
                             implies(either(!on, n == 0), l.idle == 0),
                         ),
                     ),
@@ -236,9 +217,9 @@ fn flow_latches_in_range(r: Registers, f: FifoControl, n: u32, l: Latches) -> bo
     let auto_rts = autoflow::auto_rts(r, f);
     let full = fifo::trigger_level(f) <= n;
     both(
-        l.changes <= CHANGES_MAX,
+        l.changes <= limits::CHANGES_MOST,
         both(
-            implies(autoflow::autoflow(r, f), !flag::has(l.changes, modem::CTS)),
+            implies(autoflow::autoflow(r, f), !flag::has(l.changes, bits::CTS)),
             both(
                 l.hold <= 1,
                 both(

@@ -3,7 +3,8 @@ use device::Baud;
 use device::State;
 ghost use mathlib.Core.Path.{_≡_};
 ghost use Prim.Native.Nat.{_≤_};
-ghost use Rattle.device.specs.Divisor.{withDivisor, divisorLow, divisorHigh, divisorLowWrite, divisorHighWrite};
+ghost use Rattle.device.specs.State.{withDivisor};
+ghost use Rattle.device.specs.Divisor.{divisorLow, divisorHigh, divisorLowWrite, divisorHighWrite};
 
 // The low byte.
 pub fn low(s: State) -> u8

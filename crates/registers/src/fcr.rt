@@ -1,37 +1,22 @@
 // FCR, FIFO control register.
-use crate::lcr;
 use crate::rbr;
-use crate::thr;
 use device::FifoControl;
 use device::Registers;
 use device::State;
+use sheet::bits;
 ghost use mathlib.Core.Path.{_≡_};
 ghost use mathlib.Core.Bool.{cond};
 ghost use Rattle.flag.specs.Flag.{bit, bitOf};
 ghost use Rattle.device.specs.Fcr.{fifoAfter, switched as «switched-of», clearReceive, clearTransmit, fcrWrite};
 
-// Its bits.
-pub const FCR_ENABLE: u8 = 0x01;
-
-pub const FCR_CLEAR_RX: u8 = 0x02;
-
-pub const FCR_CLEAR_TX: u8 = 0x04;
-
-pub const FCR_DMA: u8 = 0x08;
-
-pub const FCR_SIZE: u8 = 0x20;
-
-// The lower of the two trigger bits.
-pub const FCR_TRIGGER: u8 = 0x40;
-
 // The size bit after a write, which sets it only with LCR7.
 fn size_after(lcr: u8, size: u8, b: u8) -> u8
     ensures { λ r. ⌜ r ≡ cond (bit 7 lcr) (bitOf (bit 5 b)) size ⌝ }
 {
-    if !flag::has(lcr, lcr::LCR_DIVISOR) {
+    if !flag::has(lcr, bits::LCR_DLAB) {
         return size;
     }
-    flag::bit(flag::has(b, FCR_SIZE))
+    flag::bit(flag::has(b, bits::FCR_64BYTE))
 }
 
 // The settings after a write.
@@ -39,14 +24,14 @@ fn fifo_after(r: Registers, f: FifoControl, b: u8) -> FifoControl
     ensures { λ g. ⌜ g ≡ fifoAfter r f b ⌝ }
 {
     let mut next = f;
-    if !flag::has(b, FCR_ENABLE) {
+    if !flag::has(b, bits::FCR_ENABLE_FIFO) {
         next.enabled = 0;
         return next;
     }
     next.enabled = 1;
     next.size = size_after(r.lcr, f.size, b);
-    next.dma = flag::bit(flag::has(b, FCR_DMA));
-    next.trigger = b / FCR_TRIGGER;
+    next.dma = flag::bit(flag::has(b, bits::FCR_DMA_SELECT));
+    next.trigger = b / bits::FCR_TRIGGER;
     next
 }
 
@@ -80,7 +65,7 @@ fn clear_transmit(s: State) -> State
     if s.tx.count == 0 {
         return next;
     }
-    next.latches = thr::with_empty(s.latches, 1);
+    next.latches = device::with_empty(s.latches, 1);
     next
 }
 
@@ -104,9 +89,9 @@ pub fn write(s: State, b: u8) -> State
 {
     let f = fifo_after(s.registers, s.fifo, b);
     let both = switched(s.fifo, f);
-    let on = flag::has(b, FCR_ENABLE);
-    let receive = flag::either(both, flag::both(on, flag::has(b, FCR_CLEAR_RX)));
-    let transmit = flag::either(both, flag::both(on, flag::has(b, FCR_CLEAR_TX)));
+    let on = flag::has(b, bits::FCR_ENABLE_FIFO);
+    let receive = flag::either(both, flag::both(on, flag::has(b, bits::FCR_CLEAR_RCVR)));
+    let transmit = flag::either(both, flag::both(on, flag::has(b, bits::FCR_CLEAR_XMIT)));
     let mut next = s;
     next.fifo = f;
     transmit_after(receive_after(next, receive), transmit)

@@ -1,9 +1,8 @@
 // IIR, interrupt identification register.
-use crate::ier;
 use crate::rbr;
-use crate::thr;
 use device::FifoControl;
 use device::State;
+use sheet::bits;
 ghost use mathlib.Core.Path.{_≡_};
 ghost use mathlib.Core.Bool.{cond, false};
 ghost use Prim.Native.Nat.{_≤_};
@@ -12,31 +11,13 @@ ghost use Rattle.flag.specs.Flag.{on};
 ghost use Rattle.device.specs.Fifo.{triggerLevel};
 ghost use Rattle.device.specs.Iir.{lineStatus, dataAvailable, timeOut, transmitEmpty, modemStatus, interruptCode, fifoCode, iirRead};
 
-// The codes.
-pub const IIR_LINE: u8 = 0x06;
-
-pub const IIR_RECEIVED: u8 = 0x04;
-
-pub const IIR_TIMEOUT: u8 = 0x0c;
-
-pub const IIR_TRANSMIT: u8 = 0x02;
-
-pub const IIR_MODEM: u8 = 0x00;
-
-pub const IIR_NONE: u8 = 0x01;
-
-// What it shows of the FIFO.
-pub const IIR_FIFO: u8 = 0xc0;
-
-pub const IIR_FIFO_64: u8 = 0xe0;
-
 // Receiver line status: an overrun, or an error of the oldest entry.
 fn line_status(s: State) -> bool
     ensures { λ r. ⌜ r ≡ lineStatus s ⌝ }
 {
     let e = rbr::oldest(s.rx);
     flag::both(
-        flag::has(s.registers.ier, ier::IER_LINE),
+        flag::has(s.registers.ier, bits::IER_RLSI),
         flag::either(s.latches.overrun == 1, queue::entries::has_error(e)),
     )
 }
@@ -56,7 +37,7 @@ fn data_available(s: State) -> bool
     ensures { λ r. ⌜ r ≡ dataAvailable s ⌝ }
 {
     flag::both(
-        flag::has(s.registers.ier, ier::IER_RECEIVED),
+        flag::has(s.registers.ier, bits::IER_RDI),
         enough(s.fifo, s.rx.count),
     )
 }
@@ -66,7 +47,7 @@ fn time_out(s: State) -> bool
     ensures { λ r. ⌜ r ≡ timeOut s ⌝ }
 {
     flag::both(
-        flag::has(s.registers.ier, ier::IER_RECEIVED),
+        flag::has(s.registers.ier, bits::IER_RDI),
         s.latches.timeout == 1,
     )
 }
@@ -76,7 +57,7 @@ fn transmit_empty(s: State) -> bool
     ensures { λ r. ⌜ r ≡ transmitEmpty s ⌝ }
 {
     flag::both(
-        flag::has(s.registers.ier, ier::IER_TRANSMIT),
+        flag::has(s.registers.ier, bits::IER_THRI),
         s.latches.empty == 1,
     )
 }
@@ -86,7 +67,7 @@ fn modem_status(s: State) -> bool
     ensures { λ r. ⌜ r ≡ modemStatus s ⌝ }
 {
     flag::both(
-        flag::has(s.registers.ier, ier::IER_MODEM),
+        flag::has(s.registers.ier, bits::IER_MSI),
         0 < s.latches.changes,
     )
 }
@@ -96,21 +77,21 @@ fn first_of(line: bool, available: bool, late: bool, empty: bool, moved: bool) -
     ensures { λ r. ⌜ (r ≡ cond line 0x06 (cond available 0x04 (cond late 0x0c (cond empty 0x02 (cond moved 0x00 0x01))))) × (r ≤ 12) ⌝ }
 {
     if line {
-        return IIR_LINE;
+        return bits::IIR_RLSI;
     }
     if available {
-        return IIR_RECEIVED;
+        return bits::IIR_RDI;
     }
     if late {
-        return IIR_TIMEOUT;
+        return bits::IIR_RX_TIMEOUT;
     }
     if empty {
-        return IIR_TRANSMIT;
+        return bits::IIR_THRI;
     }
     if moved {
-        return IIR_MODEM;
+        return bits::IIR_MSI;
     }
-    IIR_NONE
+    bits::IIR_NO_INT
 }
 
 // The identification code.
@@ -133,7 +114,11 @@ fn fifo_code(f: FifoControl) -> u8
     if f.enabled != 1 {
         return 0;
     }
-    if f.size == 1 { IIR_FIFO_64 } else { IIR_FIFO }
+    if f.size == 1 {
+        bits::IIR_FIFO_ENABLED + bits::IIR_64BYTE_FIFO
+    } else {
+        bits::IIR_FIFO_ENABLED
+    }
 }
 
 // The code and the FIFO's bits.
@@ -155,8 +140,8 @@ pub fn after_read(s: State) -> State
     ensures { λ r. ⌜ r ≡ iirRead s .state ⌝ }
 {
     let mut next = s;
-    next.latches = thr::with_empty(s.latches, 0);
-    if interrupt_code(s) == IIR_TRANSMIT {
+    next.latches = device::with_empty(s.latches, 0);
+    if interrupt_code(s) == bits::IIR_THRI {
         return next;
     }
     s

@@ -17,6 +17,7 @@ pub mod thr;
 
 use device::Reading;
 use device::State;
+use sheet::bits;
 ghost use mathlib.Core.Path.{_≡_};
 ghost use mathlib.Core.Bool.{true, false};
 ghost use Rattle.device.specs.Lcr.{divisorAccess};
@@ -28,7 +29,7 @@ ghost use Rattle.registers.specs.Reaching.{reachesQueue as «reaches-que
 fn divisor_access(s: State) -> bool
     ensures { λ r. ⌜ r ≡ divisorAccess (s .registers) ⌝ }
 {
-    flag::has(s.registers.lcr, lcr::LCR_DIVISOR)
+    flag::has(s.registers.lcr, bits::LCR_DLAB)
 }
 
 // The byte that a register read answers. An address above 7 is taken for 7.
@@ -39,17 +40,17 @@ pub fn value(s: State, address: u8) -> u8
     let r = s.registers;
     let latch = divisor_access(s);
     match address {
-        0 => if latch {
+        bits::RBR => if latch {
             divisor::low(s)
         } else {
             rbr::value(s)
         },
-        1 => if latch { divisor::high(s) } else { r.ier },
-        2 => iir::value(s),
-        3 => r.lcr,
-        4 => r.mcr,
-        5 => lsr::value(s),
-        6 => msr::value(s),
+        bits::IER => if latch { divisor::high(s) } else { r.ier },
+        bits::IIR => iir::value(s),
+        bits::LCR => r.lcr,
+        bits::MCR => r.mcr,
+        bits::LSR => lsr::value(s),
+        bits::MSR => msr::value(s),
         _ => r.scr,
     }
 }
@@ -59,14 +60,14 @@ pub fn read_changes(s: State, address: u8) -> bool
     ensures { λ r. ⌜ (r ≡ false → readRegister s address .state ≡ s) ⌝ }
 {
     match address {
-        0 => if divisor_access(s) {
+        bits::RBR => if divisor_access(s) {
             false
         } else {
             rbr::read_changes(s)
         },
-        2 => iir::read_changes(s),
-        5 => lsr::read_changes(s),
-        6 => msr::read_changes(s),
+        bits::IIR => iir::read_changes(s),
+        bits::LSR => lsr::read_changes(s),
+        bits::MSR => msr::read_changes(s),
         _ => false,
     }
 }
@@ -76,14 +77,14 @@ pub fn after_read(s: State, address: u8) -> State
     ensures { λ r. ⌜ r ≡ readRegister s address .state ⌝ }
 {
     match address {
-        0 => if divisor_access(s) {
+        bits::RBR => if divisor_access(s) {
             s
         } else {
             rbr::after_read(s)
         },
-        2 => iir::after_read(s),
-        5 => lsr::after_read(s),
-        6 => msr::after_read(s),
+        bits::IIR => iir::after_read(s),
+        bits::LSR => lsr::after_read(s),
+        bits::MSR => msr::after_read(s),
         _ => s,
     }
 }
@@ -103,10 +104,10 @@ pub fn read_register(s: State, address: u8) -> Reading
 pub fn reaches_queue(s: State, address: u8) -> bool
     ensures { λ r. ⌜ r ≡ «reaches-queue» s address ⌝ }
 {
-    if address == 0 {
+    if address == bits::THR {
         return !divisor_access(s);
     }
-    address == 2
+    address == bits::FCR
 }
 
 // A write that reaches a queue, THR or FCR: the state after it.
@@ -114,7 +115,7 @@ pub fn write_queue(s: State, address: u8, byte: u8) -> State
     requires { ⌜ «reaches-queue» s address ≡ true ⌝ }
     ensures { λ r. ⌜ r ≡ writeRegister s address byte ⌝ }
 {
-    if address == 0 {
+    if address == bits::THR {
         return thr::write(s, byte);
     }
     fcr::write(s, byte)
@@ -127,16 +128,16 @@ pub fn write_numbers(s: State, address: u8, byte: u8) -> State
     ensures { λ r. ⌜ r ≡ writeRegister s address byte ⌝ }
 {
     match address {
-        0 => divisor::write_low(s, byte),
-        1 => if divisor_access(s) {
+        bits::DLL => divisor::write_low(s, byte),
+        bits::IER => if divisor_access(s) {
             divisor::write_high(s, byte)
         } else {
             ier::write(s, byte)
         },
-        3 => lcr::write(s, byte),
-        4 => mcr::write(s, byte),
-        5 => s,
-        6 => s,
+        bits::LCR => lcr::write(s, byte),
+        bits::MCR => mcr::write(s, byte),
+        bits::LSR => s,
+        bits::MSR => s,
         _ => scr::write(s, byte),
     }
 }

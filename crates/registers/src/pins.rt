@@ -1,10 +1,10 @@
 // The output pins.
 use crate::iir;
-use crate::lcr;
 use device::Frame;
 use device::Outputs;
 use device::State;
 use device::modem;
+use sheet::bits;
 ghost use mathlib.Core.Path.{_≡_};
 ghost use mathlib.Core.Bool.{cond};
 ghost use Prim.Native.Nat.{_≤_};
@@ -19,7 +19,7 @@ fn sout(loopback: bool, lcr: u8, x: Frame) -> u8
     requires { ⌜ x .left ≤ frameLength (x .format) ⌝ }
     ensures { λ r. ⌜ r ≡ cond loopback 1 (cond (bit 6 lcr) 0 (line x)) ⌝ }
 {
-    if flag::both(!loopback, flag::has(lcr, lcr::LCR_BREAK)) {
+    if flag::both(!loopback, flag::has(lcr, bits::LCR_SBC)) {
         return 0;
     }
     if loopback {
@@ -32,7 +32,7 @@ fn sout(loopback: bool, lcr: u8, x: Frame) -> u8
 fn intrpt(s: State) -> u8
     ensures { λ r. ⌜ r ≡ «intrpt-of» s ⌝ }
 {
-    flag::bit(iir::interrupt_code(s) != iir::IIR_NONE)
+    flag::bit(iir::interrupt_code(s) != bits::IIR_NO_INT)
 }
 
 // The levels of the output pins; in loopback no modem output is asserted.
@@ -55,13 +55,13 @@ pub fn outputs(s: State) -> Outputs
         };
     }
     let mcr = r.mcr;
-    let rts = flag::both(flag::has(mcr, modem::MCR_RTS), s.latches.hold != 1);
+    let rts = flag::both(flag::has(mcr, bits::MCR_RTS), s.latches.hold != 1);
     Outputs {
         sout,
         rts: flag::bit(rts),
-        dtr: flag::bit(flag::has(mcr, modem::MCR_DTR)),
-        out1: flag::bit(flag::has(mcr, modem::MCR_OUT1)),
-        out2: flag::bit(flag::has(mcr, modem::MCR_OUT2)),
+        dtr: flag::bit(flag::has(mcr, bits::MCR_DTR)),
+        out1: flag::bit(flag::has(mcr, bits::MCR_OUT1)),
+        out2: flag::bit(flag::has(mcr, bits::MCR_OUT2)),
         intrpt,
     }
 }

@@ -15,6 +15,8 @@ use line::tick;
 use ranges::well_formed;
 use registers::msr;
 use registers::pins::outputs;
+use sheet::answer;
+use sheet::limits;
 ghost use mathlib.Core.Path.{_≡_};
 ghost use Prim.Native.Nat.{ℕ, _≤_};
 ghost use Rattle.frame.specs.Format.{frameLength};
@@ -23,26 +25,6 @@ ghost use Rattle.device.specs.Pins.{noOutputs};
 ghost use Rattle.device.specs.Calls.{done as «done-of», refused as «refused-of», resetOf, readOf, writeOf, sinOf, modemOf, tickOf, ticksOf, ticksAnswer, pinsOf};
 ghost use Rattle.device.specs.Transmitter.{line};
 ghost use Rattle.device.specs.Forecast.{forecastNumber, pulsesToCome, ticksToCome, forecastOf, levelOf, usedOf, runOf, Foretold, StopsInTime};
-
-// The numbers answered.
-pub const DONE: u8 = 0;
-
-pub const MALFORMED: u8 = 1;
-
-pub const BAD_ADDRESS: u8 = 2;
-
-pub const BAD_LEVEL: u8 = 3;
-
-pub const NO_CLOCK: u8 = 4;
-
-pub const HELD_BACK: u8 = 5;
-
-// The last register address, and the highest levels of the input pins.
-const LAST_ADDRESS: u8 = 7;
-
-const SIN_HIGH: u8 = 1;
-
-const MODEM_ALL: u8 = 15;
 
 // Every output 0, as a refusal answers.
 fn no_outputs() -> Outputs
@@ -77,7 +59,7 @@ fn done(s: State, byte: u8) -> Answer
 {
     let t = autoflow::settle(s);
     Answer {
-        number: DONE,
+        number: answer::DONE,
         byte,
         outputs: outputs(t),
         state: t,
@@ -96,7 +78,7 @@ pub fn reset(s: State) -> Answer
     ensures { λ r. ⌜ r ≡ resetOf s ⌝ }
 {
     if !well_formed(s) {
-        return refused(MALFORMED, s);
+        return refused(answer::MALFORMED, s);
     }
     done(device::reset(s), 0)
 }
@@ -106,10 +88,10 @@ pub fn read(s: State, address: u8) -> Answer
     ensures { λ r. ⌜ r ≡ readOf s address ⌝ }
 {
     if !well_formed(s) {
-        return refused(MALFORMED, s);
+        return refused(answer::MALFORMED, s);
     }
-    if LAST_ADDRESS < address {
-        return refused(BAD_ADDRESS, s);
+    if limits::ADDRESS_MOST < address {
+        return refused(answer::BAD_ADDRESS, s);
     }
     let r = registers::read_register(s, address);
     let t = r.state;
@@ -121,10 +103,10 @@ pub fn write(s: State, address: u8, byte: u8) -> Answer
     ensures { λ r. ⌜ r ≡ writeOf s address byte ⌝ }
 {
     if !well_formed(s) {
-        return refused(MALFORMED, s);
+        return refused(answer::MALFORMED, s);
     }
-    if LAST_ADDRESS < address {
-        return refused(BAD_ADDRESS, s);
+    if limits::ADDRESS_MOST < address {
+        return refused(answer::BAD_ADDRESS, s);
     }
     done(registers::write_register(s, address, byte), 0)
 }
@@ -134,10 +116,10 @@ pub fn set_sin(s: State, level: u8) -> Answer
     ensures { λ r. ⌜ r ≡ sinOf s level ⌝ }
 {
     if !well_formed(s) {
-        return refused(MALFORMED, s);
+        return refused(answer::MALFORMED, s);
     }
-    if SIN_HIGH < level {
-        return refused(BAD_LEVEL, s);
+    if limits::SIN_MOST < level {
+        return refused(answer::BAD_LEVEL, s);
     }
     done(with_inputs(s, s.inputs.modem, level), 0)
 }
@@ -147,10 +129,10 @@ pub fn set_modem(s: State, levels: u8) -> Answer
     ensures { λ r. ⌜ r ≡ modemOf s levels ⌝ }
 {
     if !well_formed(s) {
-        return refused(MALFORMED, s);
+        return refused(answer::MALFORMED, s);
     }
-    if MODEM_ALL < levels {
-        return refused(BAD_LEVEL, s);
+    if limits::MODEM_MOST < levels {
+        return refused(answer::BAD_LEVEL, s);
     }
     done(msr::with_levels(s, with_inputs(s, levels, s.inputs.sin)), 0)
 }
@@ -167,11 +149,11 @@ pub fn ticks(s: State, n: u32) -> Answer
     ensures { λ r. ⌜ r ≡ ticksAnswer s n ⌝ }
 {
     if !well_formed(s) {
-        return refused(MALFORMED, s);
+        return refused(answer::MALFORMED, s);
     }
     let t = tick::advance(s, n);
     Answer {
-        number: DONE,
+        number: answer::DONE,
         byte: 0,
         outputs: outputs(t),
         state: t,
@@ -184,12 +166,12 @@ pub fn pins(s: State) -> Looked
 {
     if !well_formed(s) {
         return Looked {
-            number: MALFORMED,
+            number: answer::MALFORMED,
             outputs: no_outputs(),
         };
     }
     Looked {
-        number: DONE,
+        number: answer::DONE,
         outputs: outputs(s),
     }
 }
@@ -199,20 +181,20 @@ fn forecast_number(s: State) -> u8
     ensures { λ r. ⌜ r ≡ forecastNumber s ⌝ }
 {
     if !well_formed(s) {
-        return MALFORMED;
+        return answer::MALFORMED;
     }
     let count = s.tx.count;
     let work = flag::either(0 < s.frame.left, 0 < count);
     if flag::both(work, s.baud.divisor == 0) {
-        return NO_CLOCK;
+        return answer::NO_CLOCK;
     }
     let r = s.registers;
     let f = s.fifo;
     let i = s.inputs;
     if flag::both(0 < count, autoflow::held(r, f, i)) {
-        return HELD_BACK;
+        return answer::HELD_BACK;
     }
-    DONE
+    answer::DONE
 }
 
 // p, the pulses until queue and shift register are both empty.
@@ -241,11 +223,11 @@ pub fn forecast(s: State) -> Forecasted
     ensures at_most { λ r. ⌜ r .ticks ≤ 817876800 ⌝ }
 {
     let number = forecast_number(s);
-    if number != DONE {
+    if number != answer::DONE {
         return Forecasted { number, ticks: 0 };
     }
     Forecasted {
-        number: DONE,
+        number: answer::DONE,
         ticks: ticks_to_come(s),
     }
 }
@@ -256,7 +238,7 @@ pub fn level(s: State, t: u32) -> Leveled
     ensures ticked { λ r. ⌜ (r .number ≡ 0 → r .level ≡ line (ticksOf t s .frame)) ⌝ }
 {
     let number = forecast_number(s);
-    if number != DONE {
+    if number != answer::DONE {
         return Leveled { number, level: 0 };
     }
     let x = s.frame;
@@ -264,7 +246,7 @@ pub fn level(s: State, t: u32) -> Leveled
     let p = pulses_to_come(s);
     let q = forecast::place_after(s.baud.k, s.baud.divisor, p, t);
     Leveled {
-        number: DONE,
+        number: answer::DONE,
         level: forecast::level_at(x, tx, s.registers.lcr % 64, p, q),
     }
 }
@@ -273,7 +255,7 @@ pub fn level(s: State, t: u32) -> Leveled
 fn used(s: State, n: u32) -> u32
     ensures { λ r. ⌜ r ≡ usedOf s n ⌝ }
 {
-    if forecast_number(s) != DONE {
+    if forecast_number(s) != answer::DONE {
         return n;
     }
     let ticks = ticks_to_come(s);
@@ -287,14 +269,14 @@ pub fn run(s: State, n: u32) -> Ran
 {
     if !well_formed(s) {
         return Ran {
-            number: MALFORMED,
+            number: answer::MALFORMED,
             used: 0,
             state: s,
         };
     }
     let used = used(s, n);
     Ran {
-        number: DONE,
+        number: answer::DONE,
         used,
         state: tick::advance(s, used),
     }

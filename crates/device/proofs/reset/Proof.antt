@@ -8,8 +8,8 @@ fresh-requires : tie.Need-fresh-requires
 fresh-requires c κs = search needs
 
 returns : tie.Need-returns
-unfolding resetState freshOf
-returns c = rw (c .fresh .ensures)
+unfolding resetState
+returns c = rw (c .before .fresh .ensures)
 
 pub reset-spec : {M : Type 1} → statement M
 reset-spec = tie.close (tie.spec fresh-requires returns)

@@ -1,19 +1,24 @@
--- A full queue of more than one place keeps its bytes; else the byte has its place.
-use Rattle.queue.proofs.Laws.{put-kept, put-placed}
+-- A full queue of more than one place keeps its places; else what is put has its place.
+use Rattle.queue.specs.Queue.{putByte}
+use Rattle.queue.proofs.Laws.{put-keeps, put-places}
 use Prim.Native.Nat.{_-_}
 use mathlib.Core.Path.{sym, _∙_}
 use borrow.Author.Needs.{needs}
 use Rattle.queue.proofs.bytes.put.Statement.{statement}
 use Rattle.queue.proofs.bytes.put.Tie as tie
-use Rattle.flag.proofs.both.Reads as both-reads
-use Rattle.queue.proofs.bytes.count_after.Reads as count-after-reads
-use Rattle.queue.proofs.bytes.next_place.Reads as next-place-reads
+use Rattle.queue.proofs.count_after.Reads as count-after-reads
+use Rattle.queue.proofs.keeps.Reads as keeps-reads
+use Rattle.queue.proofs.next_place.Reads as next-place-reads
 
-both-requires : tie.Need-both-requires
-both-requires c κs = search needs
+keeps-requires : tie.Need-keeps-requires
+keeps-requires c κs = search needs
 
 returns : tie.Need-returns
-returns c = put-kept _ _ _ (sym (c .before .both .ensures) ∙ c .if1 .taken)
+unfolding putByte
+returns c =
+    let q = c .before .before .args .q in
+    let k = put-keeps (c .before .before .args .capacity) (q .count) (q .bytes) (c .before .before .args .b) (sym (c .before .keeps .ensures) ∙ c .if1 .taken) in
+    rw (k .0, k .1)
 
 next-place-requires : tie.Need-next-place-requires
 next-place-requires c κs = search needs
@@ -25,13 +30,14 @@ count-after-requires : tie.Need-count-after-requires
 count-after-requires c κs = search needs
 
 returns-2 : tie.Need-returns-2
-returns-2 c = rw (c .count-after .ensures, c .before .next-place .ensures .0) (put-placed _ _ _ (sym (c .before .before .before .both .ensures) ∙ c .before .before .if1 .left))
+unfolding putByte
+returns-2 c = rw (c .count-after .ensures, c .before .next-place .ensures .0, put-places _ _ _ _ (sym (c .before .before .before .keeps .ensures) ∙ c .before .before .if1 .left))
 
 pub put-spec : {M : Type 1} → statement M
 put-spec =
     tie.close
     (tie.spec
-    both-requires
+    keeps-requires
     returns
     next-place-requires
     element-write-next

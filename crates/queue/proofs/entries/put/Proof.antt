@@ -1,32 +1,49 @@
--- The code takes the definition's tests in the definition's order, so each way out has the outcome of each test.
+-- A full queue of more than one place keeps its places; else what is put has its place.
+use Rattle.queue.specs.Queue.{putEntry}
+use Rattle.queue.proofs.Laws.{put-keeps, put-places}
+use Prim.Native.Nat.{_-_}
+use mathlib.Core.Path.{sym, _∙_}
 use borrow.Author.Needs.{needs}
-use borrow.Author.Tests.{eq-eqb}
-use Rattle.flag.proofs.Laws.{tests}
-use Rattle.queue.specs.Queue.{putEntry, placesPut, countPut, isFull}
 use Rattle.queue.proofs.entries.put.Statement.{statement}
 use Rattle.queue.proofs.entries.put.Tie as tie
+use Rattle.queue.proofs.count_after.Reads as count-after-reads
+use Rattle.queue.proofs.keeps.Reads as keeps-reads
+use Rattle.queue.proofs.next_place.Reads as next-place-reads
+
+keeps-requires : tie.Need-keeps-requires
+keeps-requires c κs = search needs
 
 returns : tie.Need-returns
-unfolding putEntry placesPut countPut isFull
-returns c = simp (tests, c .if1 .taken)
+unfolding putEntry
+returns c =
+    let q = c .before .before .args .q in
+    let k = put-keeps (c .before .before .args .capacity) (q .count) (q .entries) (c .before .before .args .e) (sym (c .before .keeps .ensures) ∙ c .if1 .taken) in
+    rw (k .0, k .1)
+
+next-place-requires : tie.Need-next-place-requires
+next-place-requires c κs = search needs
+
+mul-e : tie.Need-mul-e
+mul-e c = search needs
+
+element-set-from-e : tie.Need-element-set-from-e
+element-set-from-e c = search needs
+
+count-after-requires : tie.Need-count-after-requires
+count-after-requires c κs = search needs
 
 returns-2 : tie.Need-returns-2
-unfolding putEntry placesPut countPut isFull
-returns-2 c = simp (tests, c .before .if1 .left, eq-eqb _ _ (c .if2 .taken))
-
-returns-3 : tie.Need-returns-3
-unfolding putEntry placesPut countPut isFull
-returns-3 c = simp (tests, c .before .if1 .left, c .if2 .left)
+unfolding putEntry
+returns-2 c = rw (c .count-after .ensures, c .before .next-place .ensures .0, put-places _ _ _ _ (sym (c .before .before .before .keeps .ensures) ∙ c .before .before .if1 .left))
 
 pub put-spec : {M : Type 1} → statement M
 put-spec =
     tie.close
     (tie.spec
-    (λ c. search needs)
-    (λ c. search needs)
-    (λ c. search needs)
-    (λ c. search needs)
+    keeps-requires
     returns
-    (λ c. search needs)
-    returns-2
-    returns-3)
+    next-place-requires
+    mul-e
+    element-set-from-e
+    count-after-requires
+    returns-2)

@@ -2,8 +2,8 @@
 use Prim.Native.Nat.{_-_}
 use native.Mathlib.Omega.{arith}
 use borrow.Author.Tests.{lt-ltb, le-ltb}
-use Rattle.queue.proofs.bytes.next_place.Statement.{statement}
-use Rattle.queue.proofs.bytes.next_place.Tie as tie
+use Rattle.queue.proofs.next_place.Statement.{statement}
+use Rattle.queue.proofs.next_place.Tie as tie
 
 returns : tie.Need-returns
 returns c = (simp (lt-ltb _ _ (c .if1 .taken)), omega (arith, c .if1 .taken, c .before .pre))

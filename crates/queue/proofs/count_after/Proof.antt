@@ -3,8 +3,8 @@ use Rattle.queue.specs.Queue.{countPut}
 use Prim.Native.Nat.{_-_}
 use borrow.Author.Tests.{lt-ltb, le-ltb}
 use borrow.Author.Needs.{needs}
-use Rattle.queue.proofs.bytes.count_after.Statement.{statement}
-use Rattle.queue.proofs.bytes.count_after.Tie as tie
+use Rattle.queue.proofs.count_after.Statement.{statement}
+use Rattle.queue.proofs.count_after.Tie as tie
 
 add-result : tie.Need-add-result
 add-result c = search needs

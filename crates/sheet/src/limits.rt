@@ -1,0 +1,28 @@
+// The limits of the state (document 01, "The state"): the most that each number may be.
+pub const ADDRESS_MOST: u8 = 7;
+
+pub const IER_MOST: u8 = 63;
+
+pub const MCR_MOST: u8 = 63;
+
+pub const DIVISOR_MOST: u32 = 65535;
+
+pub const TRIGGER_MOST: u8 = 3;
+
+pub const MODEM_MOST: u8 = 15;
+
+pub const SIN_MOST: u8 = 1;
+
+// L, the pulses left of a frame.
+pub const LEFT_MOST: u32 = 192;
+
+pub const FORMAT_MOST: u8 = 63;
+
+pub const IDLE_MOST: u32 = 769;
+
+pub const CHANGES_MOST: u8 = 15;
+
+// The places of a queue, and the last of them.
+pub const PLACES: usize = 64;
+
+pub const LAST_PLACE: usize = 63;
