@@ -6,6 +6,7 @@ use Rattle.flag.specs.Flag.{on, bit}
 use Rattle.device.specs.declared.Registers.{Registers}
 use Rattle.device.specs.declared.FifoControl.{FifoControl}
 use Rattle.device.specs.declared.Inputs.{Inputs}
+use Rattle.device.specs.declared.Latches.{Latches}
 use Rattle.device.specs.declared.State.{State}
 use Rattle.device.specs.State.{withLatches, withChanges, withHold}
 use Rattle.device.specs.Fifo.{triggerLevel}
@@ -32,10 +33,10 @@ settledChanges r f changes = cond (autoflow r f) (changes / 2 * 2) changes
 unfoldable pub settledHold : Registers → FifoControl → ℕ → ℕ → ℕ
 settledHold r f n hold = cond (autoRts r f) (cond (leb (triggerLevel f) n) 1 (cond (eqb n 0) 0 hold)) 0
 
+-- the latches with these rules applied, n received characters queued
+unfoldable pub settledLatches : Registers → FifoControl → ℕ → Latches → Latches
+settledLatches r f n l = withHold (withChanges l (settledChanges r f (l .changes))) (settledHold r f n (l .hold))
+
 -- every step ends by applying these rules
 unfoldable pub settled : State → State
-settled s =
-    let l = s .latches in
-    withLatches s
-    (withHold (withChanges l (settledChanges (s .registers) (s .fifo) (l .changes)))
-    (settledHold (s .registers) (s .fifo) (s .rx .count) (l .hold)))
+settled s = withLatches s (settledLatches (s .registers) (s .fifo) (s .rx .count) (s .latches))

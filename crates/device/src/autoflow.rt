@@ -1,13 +1,14 @@
 // Autoflow, and the rules that end every step.
 use crate::FifoControl;
 use crate::Inputs;
+use crate::Latches;
 use crate::Registers;
 use crate::State;
 use crate::fifo;
 use crate::modem;
 use sheet::bits;
 ghost use mathlib.Core.Path.{_≡_};
-ghost use Rattle.device.specs.Autoflow.{autoflow as «autoflow-of», autoRts, held as «held-of», settledChanges, settledHold, settled};
+ghost use Rattle.device.specs.Autoflow.{autoflow as «autoflow-of», autoRts, held as «held-of», settledChanges, settledHold, settledLatches, settled};
 
 // Whether autoflow is on.
 pub fn autoflow(r: Registers, f: FifoControl) -> bool
@@ -56,19 +57,24 @@ pub fn settled_hold(r: Registers, f: FifoControl, count: u32, hold: u8) -> u8
     if count == 0 { 0 } else { hold }
 }
 
+// The latches as a step leaves them, with `count` characters received.
+pub fn settle_latches(r: Registers, f: FifoControl, count: u32, l: Latches) -> Latches
+    ensures { λ m. ⌜ m ≡ settledLatches r f count l ⌝ }
+{
+    let changes = settled_changes(r, f, l.changes);
+    let hold = settled_hold(r, f, count, l.hold);
+    let mut next = l;
+    next.changes = changes;
+    next.hold = hold;
+    next
+}
+
 // The state as the rules that end every step leave it.
 pub fn settle(s: State) -> State
     ensures { λ t. ⌜ t ≡ settled s ⌝ }
 {
-    let r = s.registers;
-    let f = s.fifo;
-    let mut l = s.latches;
-    let changes = l.changes;
-    let hold = l.hold;
-    let count = s.rx.count;
-    l.changes = settled_changes(r, f, changes);
-    l.hold = settled_hold(r, f, count, hold);
+    let latches = settle_latches(s.registers, s.fifo, s.rx.count, s.latches);
     let mut next = s;
-    next.latches = l;
+    next.latches = latches;
     next
 }

@@ -102,6 +102,13 @@ pub struct Reading {
     pub state: State,
 }
 
+// The numbers that a write sets which reaches no queue.
+pub struct Numbers {
+    pub registers: Registers,
+    pub baud: Baud,
+    pub latches: Latches,
+}
+
 // What a pulse makes of the receiver: its next state, and the entry of a character that ended.
 pub struct Received {
     pub receiver: Receiver,

@@ -1,18 +1,16 @@
--- The two latches are those of the definition; the rest stays.
+-- The latches are the settled ones.
 use Rattle.device.specs.Autoflow.{settled}
 use borrow.Author.Needs.{needs}
 use Rattle.device.proofs.autoflow.settle.Statement.{statement}
 use Rattle.device.proofs.autoflow.settle.Tie as tie
+use Rattle.device.proofs.autoflow.settle_latches.Reads as settle-latches-reads
 
-settled-changes-requires : tie.Need-settled-changes-requires
-settled-changes-requires c κs = search needs
-
-settled-hold-requires : tie.Need-settled-hold-requires
-settled-hold-requires c κs = search needs
+settle-latches-requires : tie.Need-settle-latches-requires
+settle-latches-requires c κs = search needs
 
 returns : tie.Need-returns
 unfolding settled
-returns c = rw (c .settled-hold .ensures, c .before .settled-changes .ensures)
+returns c = rw (c .settle-latches .ensures)
 
 pub settle-spec : {M : Type 1} → statement M
-settle-spec = tie.close (tie.spec settled-changes-requires settled-hold-requires returns)
+settle-spec = tie.close (tie.spec settle-latches-requires returns)

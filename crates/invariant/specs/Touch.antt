@@ -1,0 +1,70 @@
+-- Which parts of the state a step may touch: one table for the code that leaves the others where they are, and for the
+-- proofs. It follows from the definitions of the steps (`proofs/Touched.antt`).
+use Prim.Native.Nat.{ℕ}
+use mathlib.Core.Path.{_≡_}
+use mathlib.Core.Bool.{Bool, true, false, cond, not}
+use lib.Dec.{eqb}
+use Rattle.device.specs.declared.Numbers.{Numbers}
+use Rattle.device.specs.declared.State.{State}
+use Rattle.device.specs.Lcr.{divisorAccess}
+
+-- some of the state's parts
+pub record Parts : Type 0 where
+  pub registers : Bool
+  pub baud : Bool
+  pub fifo : Bool
+  pub inputs : Bool
+  pub tx : Bool
+  pub frame : Bool
+  pub rx : Bool
+  pub receiver : Bool
+  pub latches : Bool
+
+-- The table. The rules that end a step touch the latches, so every row has them.
+
+-- a read: RBR takes from the receive queue, LSR clears errors there
+abbrev pub byRead : Parts
+byRead = record { registers = false; baud = false; fifo = false; inputs = false; tx = false; frame = false; rx = true; receiver = false; latches = true }
+
+-- a write that reaches no queue
+abbrev pub byNumbers : Parts
+byNumbers = record { registers = true; baud = true; fifo = false; inputs = false; tx = false; frame = false; rx = false; receiver = false; latches = true }
+
+-- a write that reaches a queue
+abbrev pub byQueues : Parts
+byQueues = record { registers = false; baud = false; fifo = true; inputs = false; tx = true; frame = false; rx = true; receiver = false; latches = true }
+
+-- SIN and the modem pins
+abbrev pub byInputs : Parts
+byInputs = record { registers = false; baud = false; fifo = false; inputs = true; tx = false; frame = false; rx = false; receiver = false; latches = true }
+
+-- a pulse
+abbrev pub byPulse : Parts
+byPulse = record { registers = false; baud = false; fifo = false; inputs = false; tx = true; frame = true; rx = true; receiver = true; latches = true }
+
+-- the state s with these parts of t in place of its own
+abbrev pub merged : Parts → State → State → State
+merged p s t =
+    record {
+      registers = cond (p .registers) (t .registers) (s .registers);
+      baud = cond (p .baud) (t .baud) (s .baud);
+      fifo = cond (p .fifo) (t .fifo) (s .fifo);
+      inputs = cond (p .inputs) (t .inputs) (s .inputs);
+      tx = cond (p .tx) (t .tx) (s .tx);
+      frame = cond (p .frame) (t .frame) (s .frame);
+      rx = cond (p .rx) (t .rx) (s .rx);
+      receiver = cond (p .receiver) (t .receiver) (s .receiver);
+      latches = cond (p .latches) (t .latches) (s .latches);
+    }
+
+-- t follows s, and only these parts differ
+abbrev pub Touches : Parts → State → State → Type 0
+Touches p s t = t ≡ merged p s t
+
+-- Which writes reach a queue: THR, and FCR, which may clear both (document 01, "Registers").
+abbrev pub reachesQueue : State → ℕ → Bool
+reachesQueue s a = cond (eqb a 0) (not (divisorAccess (s .registers))) (eqb a 2)
+
+-- the parts that a write touches which reaches none
+abbrev pub numbersOf : State → Numbers
+numbersOf s = record { registers = s .registers; baud = s .baud; latches = s .latches }
