@@ -22,6 +22,7 @@ use Rattle.device.specs.declared.Frame.{Frame}
 use Rattle.device.specs.declared.Receiver.{Receiver}
 use Rattle.device.specs.declared.Latches.{Latches}
 use Rattle.device.specs.declared.State.{State}
+use Rattle.device.specs.State.{withEmpty, withOverrun, withTimeout, withChanges, withHold, withIdle}
 use Rattle.device.specs.Fifo.{capacity, byCode, triggerLevel}
 use Rattle.device.specs.Autoflow.{autoflow, autoRts}
 use Rattle.device.specs.Ranges.{registerRanges, settingRanges, transmitRanges, stopPosition, samplesTaken, characterRanges, outsideRanges, receiveRanges, latchRanges, wellFormed}
@@ -251,6 +252,30 @@ pub record LatchFacts (f : FifoControl) (m n : ℕ) (l : Latches) : Type 0 where
   pub overrun-most : l .overrun ≤ 1
   pub changes-most : l .changes ≤ 15
   pub hold-most : l .hold ≤ 1
+
+-- A latch put in place of another that keeps its facts; the transmit-empty latch with m′ bytes queued, the time-out latch
+-- and the idle count with other settings and another number of characters received.
+
+module _ {f : FifoControl} {m n : ℕ} {l : Latches} (g : LatchFacts f m n l) where
+  pub latches-empty : {m′ e : ℕ} → EmptyFacts m′ e → LatchFacts f m′ n (withEmpty l e)
+  latches-empty h =
+      record { empty = h; wait = g .wait; overrun-most = g .overrun-most; changes-most = g .changes-most; hold-most = g .hold-most }
+
+  pub latches-wait : {f′ : FifoControl} {n′ t i : ℕ} → WaitFacts f′ n′ t i → LatchFacts f′ m n′ (withIdle (withTimeout l t) i)
+  latches-wait h =
+      record { empty = g .empty; wait = h; overrun-most = g .overrun-most; changes-most = g .changes-most; hold-most = g .hold-most }
+
+  pub latches-overrun : {o : ℕ} → o ≤ 1 → LatchFacts f m n (withOverrun l o)
+  latches-overrun h =
+      record { empty = g .empty; wait = g .wait; overrun-most = h; changes-most = g .changes-most; hold-most = g .hold-most }
+
+  pub latches-changes : {c : ℕ} → c ≤ 15 → LatchFacts f m n (withChanges l c)
+  latches-changes h =
+      record { empty = g .empty; wait = g .wait; overrun-most = g .overrun-most; changes-most = h; hold-most = g .hold-most }
+
+  pub latches-hold : {o : ℕ} → o ≤ 1 → LatchFacts f m n (withHold l o)
+  latches-hold h =
+      record { empty = g .empty; wait = g .wait; overrun-most = g .overrun-most; changes-most = g .changes-most; hold-most = h }
 
 -- the rules that end every step: the CTS change bit is 0 with autoflow on; hold is 0 without auto-RTS, with it 1 at or
 -- above the trigger, 0 when no data is waiting

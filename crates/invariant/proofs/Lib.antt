@@ -6,5 +6,5 @@ pub mod Registers
 pub mod Sampling
 pub mod Reception
 pub mod Line
-pub mod Constant
+pub mod Touched
 pub mod Steps

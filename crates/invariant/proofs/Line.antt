@@ -1,15 +1,15 @@
--- A tick keeps a sound state sound, and does not touch registers, settings, pins and divisor.
+-- A tick keeps a sound state sound.
 use Prim.Native.Nat.{ℕ, zero, suc, _+_, _-_, _*_, _/_, min, _≤_}
 use mathlib.Core.Path.{_≡_, refl, _∙_}
-use mathlib.Core.Bool.{Bool, true, false, cond, not, _||_}
+use mathlib.Core.Bool.{Bool, true, cond, not, _&&_}
 use lib.Dec.{ltb, eqb}
 use lib.ListN.{getD, length}
 use lib.Seq.{getD-drop}
 use native.Mathlib.Decide.{decLt}
 use native.Mathlib.Omega.{arith}
-use borrow.Author.Tests.{eqb-true, eqb-false, not-false}
+use borrow.Author.Tests.{eqb-true, eqb-false, not-true}
 use Rattle.flag.specs.Flag.{on, bit}
-use Rattle.flag.proofs.Laws.{by-test}
+use Rattle.flag.proofs.Laws.{by-test, and-left, and-right}
 use Rattle.frame.specs.Format.{formatOf, dataBits, parityBits, frameLength, parityBit}
 use Rattle.frame.specs.Frame.{frameLevels, lineLevel}
 use Rattle.frame.proofs.Frames.{frame-length-bounds, level-start, level-data, level-parity, level-stop}
@@ -20,19 +20,17 @@ use Rattle.device.specs.declared.FifoControl.{FifoControl}
 use Rattle.device.specs.declared.Frame.{Frame}
 use Rattle.device.specs.declared.Latches.{Latches}
 use Rattle.device.specs.declared.State.{State}
-use Rattle.device.specs.State.{withFrame, withTx, withLatches, noFrame}
+use Rattle.device.specs.State.{withFrame, withTx, withLatches, withEmpty, withTimeout, withIdle, withK}
 use Rattle.device.specs.Fifo.{capacity}
 use Rattle.device.specs.Modem.{loopback}
-use Rattle.device.specs.Autoflow.{held}
-use Rattle.device.specs.Thr.{withEmpty}
-use Rattle.device.specs.Transmitter.{loaded, transmitted}
+use Rattle.device.specs.Transmitter.{loaded, ready, shiftedOut, transmitted}
 use Rattle.device.specs.Receiver.{heard, reception, enters, entered, accepted, received}
-use Rattle.device.specs.Idle.{withIdle, idleAt, idled}
-use Rattle.device.specs.Tick.{pulsed, withK, ticked}
+use Rattle.device.specs.Idle.{counts, timeOutAt, counted, idled}
+use Rattle.device.specs.Tick.{pulsed, ticked}
 use Rattle.invariant.proofs.Tests.{or-neither, bit-most}
-use Rattle.invariant.proofs.Good.{FrameFacts, EmptyFacts, LatchFacts}
+use Rattle.invariant.proofs.Good.{FrameFacts, EmptyFacts, WaitFacts, LatchFacts, latches-empty, latches-wait, latches-overrun}
 use Rattle.invariant.proofs.Settled.{Sound}
-use Rattle.invariant.proofs.Parts.{sound-baud, sound-frame, sound-receiver, sound-latches, sound-tx, sound-rx, transmit-taken, receive-put, latches-empty, latches-overrun}
+use Rattle.invariant.proofs.Parts.{sound-registers, sound-transmit, sound-receive, sound-frame, sound-receiver, sound-latches, transmit-taken, receive-put, latches-more}
 use Rattle.invariant.proofs.Reception.{receive-facts}
 
 -- The levels of a line are 0 or 1.
@@ -89,12 +87,12 @@ loaded-sound s w =
     x = record { left = frameLength f; byte = getD (s .tx .bytes) 0 0; format = f }
 
     framed : Sound (withFrame s x)
-    framed = sound-frame x w (omega (arith, frame-length-bounds f))
+    framed = sound-frame w x (omega (arith, frame-length-bounds f))
 
     -- with the transmit-empty latch e
     taken : (e : ℕ) → EmptyFacts (s .tx .count - 1) e → Sound (withLatches (withTx (withFrame s x) (takeByte (s .tx))) (withEmpty (s .latches) e))
     taken e g =
-        sound-tx (takeByte (s .tx)) (withEmpty (s .latches) e) framed
+        sound-transmit framed (takeByte (s .tx)) x (withEmpty (s .latches) e)
         (length-shifted 0 (s .tx .bytes) (omega arith) ∙ w .bytes-long)
         (transmit-taken (framed .transmit))
         (latches-empty (w .latches) g)
@@ -102,17 +100,20 @@ loaded-sound s w =
     same : EmptyFacts (s .tx .count - 1) (s .latches .empty)
     same = record { empty-most = w .latches .empty .empty-most; empty-none = λ h. omega (arith, w .latches .empty .empty-none h) }
 
--- a pulse of a frame that goes on
-falls : (x : Frame) → (x .left - 1 ≡ 0 → ⊥) → FrameFacts x → FrameFacts (record { left = x .left - 1; byte = x .byte; format = x .format })
-falls x more g =
-    record { left-most = omega arith; format-most = g .format-most; byte-none = λ h. absurd (more h); format-none = λ h. absurd (more h) }
+-- L falls
+shifted-facts : (x : Frame) → FrameFacts x → FrameFacts (shiftedOut x)
+unfolding shiftedOut
+shifted-facts x g = by-test FrameFacts (eqb (x .left - 1) 0) _ _ (λ _. omega arith) (λ e. falls (eqb-false (x .left - 1) 0 e))
+  where
+    falls : (x .left - 1 ≡ 0 → ⊥) → FrameFacts (record { left = x .left - 1; byte = x .byte; format = x .format })
+    falls more =
+        record { left-most = omega arith; format-most = g .format-most; byte-none = λ h. absurd (more h); format-none = λ h. absurd (more h) }
 
 pub transmitted-sound : (s : State) → Sound s → Sound (transmitted s)
 unfolding transmitted
 transmitted-sound s w =
-    by-test Sound (eqb (s .frame .left - 1) 0) _ _
-    (λ _. by-test Sound (eqb (s .tx .count) 0 || held (s .registers) (s .fifo) (s .inputs)) _ _ (λ _. sound-frame noFrame w (omega arith)) (λ _. loaded-sound s w))
-    (λ e. sound-frame _ w (falls (s .frame) (eqb-false (s .frame .left - 1) 0 e) (w .transmit .frame)))
+    by-test Sound (eqb (shiftedOut (s .frame) .left) 0 && ready s) _ _ (λ _. loaded-sound s w)
+    (λ _. sound-frame w _ (shifted-facts (s .frame) (w .transmit .frame)))
 
 -- The receiver.
 
@@ -123,10 +124,10 @@ count-more c n = by-test (λ (m : ℕ). n ≤ m) (ltb n c) _ _ (λ _. omega arit
 pub entered-sound : (s : State) (e : Entry) → flagsInRange e ≡ true → Sound s → Sound (entered s e)
 unfolding entered putEntry
 entered-sound s e t w =
-    sound-rx (putEntry c (s .rx) e .queue) _ w
+    sound-receive w (putEntry c (s .rx) e) (s .receiver) _
     (length-put c n (s .rx .entries) e ∙ w .entries-long)
     (receive-put e t (w .receive))
-    (latches-overrun (w .latches) (count-more c n) overrun)
+    (latches-overrun (latches-more (w .latches) (count-more c n)) overrun)
   where
     c : ℕ
     c = capacity (s .fifo)
@@ -141,49 +142,33 @@ pub received-sound : (s : State) → Sound s → Sound (received s)
 unfolding received accepted
 received-sound s w =
     let g = receive-facts (heard s) (s .registers .lcr) (s .receiver) (heard-most s w) (w .receive .receiver) in
-    let kept = sound-receiver (reception s .receiver) w (g .receiver) in
+    let kept = sound-receiver w (reception s .receiver) (g .receiver) in
     by-test Sound (reception s .ended) _ _ (λ _. entered-sound _ (reception s .entry) (g .flags) kept) (λ _. kept)
 
 -- The idle count.
 
--- with FIFO on and data waiting
-latches-idle : {f : FifoControl} {m n : ℕ} {l : Latches} (t i : ℕ) → LatchFacts f m n l → f .enabled ≡ 1 → (n ≡ 0 → ⊥) → t ≤ 1 → i ≤ 769
-    → LatchFacts f m n (withIdle l t i)
-latches-idle t i g one some h k =
-    record { empty = g .empty; wait = omega arith; overrun-most = g .overrun-most; changes-most = g .changes-most; hold-most = g .hold-most }
-
 pub idled-sound : (new : Bool) (s : State) → Sound s → Sound (idled new s)
-unfolding idled idleAt
+unfolding idled counted
 idled-sound new s w =
-    by-test Sound (off || none) _ _ (λ _. w)
-    (λ e. sound-latches _ w (by-test (LatchFacts (s .fifo) (s .tx .count) n) new _ _ (λ _. zeroed e) (λ _. counted e)))
+    by-test Sound (counts (s .fifo) n) _ _
+    (λ e. sound-latches w _ (by-test (LatchFacts (s .fifo) (s .tx .count) n) new _ _ (λ _. waits e (s .latches .timeout) 0 (w .latches .wait .timeout-most) (omega arith)) (λ _. waits e _ _ timeout (omega arith))))
+    (λ _. w)
   where
     n : ℕ
     n = s .rx .count
 
-    off : Bool
-    off = not (on (s .fifo .enabled))
-
-    none : Bool
-    none = eqb n 0
-
-    one : (off || none) ≡ false → s .fifo .enabled ≡ 1
-    one e = eqb-true (s .fifo .enabled) 1 (not-false (on (s .fifo .enabled)) (or-neither off none e .0))
-
-    some : (off || none) ≡ false → n ≡ 0 → ⊥
-    some e = eqb-false n 0 (or-neither off none e .1)
-
-    zeroed : (off || none) ≡ false → LatchFacts (s .fifo) (s .tx .count) n (withIdle (s .latches) (s .latches .timeout) 0)
-    zeroed e = latches-idle (s .latches .timeout) 0 (w .latches) (one e) (some e) (w .latches .wait .timeout-most) (omega arith)
+    -- with FIFO on and data waiting
+    waits : counts (s .fifo) n ≡ true → (t i : ℕ) → t ≤ 1 → i ≤ 769 → LatchFacts (s .fifo) (s .tx .count) n (withIdle (withTimeout (s .latches) t) i)
+    waits e t i h k =
+        let one : s .fifo .enabled ≡ 1 = eqb-true (s .fifo .enabled) 1 (and-left (on (s .fifo .enabled)) (not (eqb n 0)) e) in
+        let some : n ≡ 0 → ⊥ = eqb-false n 0 (not-true (eqb n 0) (and-right (on (s .fifo .enabled)) (not (eqb n 0)) e)) in
+        latches-wait (w .latches) (omega arith)
 
     late : Bool
-    late = ltb (4 * frameLength (formatOf (s .registers .lcr))) (min (s .latches .idle + 1) 769)
+    late = ltb (timeOutAt (s .registers .lcr)) (min (s .latches .idle + 1) 769)
 
     timeout : cond late 1 (s .latches .timeout) ≤ 1
     timeout = by-test (λ (t : ℕ). t ≤ 1) late _ _ (λ _. omega arith) (λ _. w .latches .wait .timeout-most)
-
-    counted : (off || none) ≡ false → LatchFacts (s .fifo) (s .tx .count) n (idleAt (s .registers .lcr) (min (s .latches .idle + 1) 769) (s .latches))
-    counted e = latches-idle _ (min (s .latches .idle + 1) 769) (w .latches) (one e) (some e) timeout (omega arith)
 
 -- The pulse and the tick.
 
@@ -193,10 +178,10 @@ pulsed-sound s w = idled-sound (enters (transmitted s)) _ (received-sound _ (tra
 
 -- k falls by 1, or becomes D
 k-falls : (s : State) → Sound s → (s .baud .k - 1 ≡ 0 → ⊥) → Sound (withK s (s .baud .k - 1))
-k-falls s w more = sound-baud _ w (omega arith) (omega arith) (λ _. omega arith)
+k-falls s w more = sound-registers w (s .registers) _ (omega arith)
 
 k-again : (s : State) → Sound s → Sound (withK s (s .baud .divisor))
-k-again s w = sound-baud _ w (omega arith) (omega arith) (λ l. l)
+k-again s w = sound-registers w (s .registers) _ (omega arith)
 
 pub ticked-sound : (s : State) → Sound s → Sound (ticked s)
 unfolding ticked

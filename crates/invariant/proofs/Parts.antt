@@ -23,115 +23,80 @@ use Rattle.device.specs.declared.State.{State}
 use Rattle.device.specs.State.{withRegisters, withBaud, withFifo, withInputs, withTx, withFrame, withRx, withReceiver, withLatches}
 use Rattle.device.specs.Fifo.{capacity}
 use Rattle.device.specs.Rbr.{restartIdle}
-use Rattle.device.specs.Thr.{withEmpty}
-use Rattle.device.specs.Msr.{withChanges}
-use Rattle.invariant.proofs.Good.{SettingFacts, FrameFacts, TransmitFacts, ReceiverFacts, ReceiveFacts, EmptyFacts, LatchFacts, capacity-bounds}
+use Rattle.invariant.proofs.Good.{RegisterFacts, SettingFacts, FrameFacts, TransmitFacts, ReceiverFacts, ReceiveFacts, LatchFacts, capacity-bounds, latches-wait}
 use Rattle.invariant.proofs.Settled.{Sound}
 
--- One part of a sound state.
+-- The parts of one group put in place of others that keep its ranges; with a queue go the latches that depend on its
+-- count. A part that stays is the state's own.
 
-pub sound-registers : {s : State} (p : Registers) → Sound s → (p .ier ≤ 63) × (p .mcr ≤ 63) × (p .lcr ≤ 255) × (p .scr ≤ 255) → Sound (withRegisters s p)
-sound-registers p w h =
-    let g = w .registers in
-    record {
-      bytes-long = w .bytes-long;
-      entries-long = w .entries-long;
-      registers = record { ier-most = h .0; mcr-most = h .1; lcr-most = h .2; scr-most = h .3; divisor-most = g .divisor-most; k-most = g .k-most; k-least = g .k-least };
-      settings = w .settings;
-      transmit = w .transmit;
-      receive = w .receive;
-      latches = w .latches;
-    }
+module _ {s : State} (w : Sound s) where
+  pub sound-registers : (r : Registers) (b : Baud) → RegisterFacts r b → Sound (withBaud (withRegisters s r) b)
+  sound-registers r b g =
+      record { bytes-long = w .bytes-long; entries-long = w .entries-long; registers = g; settings = w .settings; transmit = w .transmit; receive = w .receive; latches = w .latches }
 
-pub sound-baud : {s : State} (p : Baud) → Sound s → p .divisor ≤ 65535 → p .k ≤ p .divisor → (1 ≤ p .divisor → 1 ≤ p .k) → Sound (withBaud s p)
-sound-baud p w most k-most k-least =
-    let g = w .registers in
-    record {
-      bytes-long = w .bytes-long;
-      entries-long = w .entries-long;
-      registers = record { ier-most = g .ier-most; mcr-most = g .mcr-most; lcr-most = g .lcr-most; scr-most = g .scr-most; divisor-most = most; k-most = k-most; k-least = k-least };
-      settings = w .settings;
-      transmit = w .transmit;
-      receive = w .receive;
-      latches = w .latches;
-    }
+  pub sound-transmit : (q : ByteQueue) (x : Frame) (l : Latches) → length (q .bytes) ≡ 64 → TransmitFacts (s .fifo) q x
+      → LatchFacts (s .fifo) (q .count) (s .rx .count) l → Sound (withLatches (withFrame (withTx s q) x) l)
+  sound-transmit q x l long g h =
+      record { bytes-long = long; entries-long = w .entries-long; registers = w .registers; settings = w .settings; transmit = g; receive = w .receive; latches = h }
 
-pub sound-inputs : {s : State} (p : Inputs) → Sound s → SettingFacts (s .fifo) p → Sound (withInputs s p)
-sound-inputs p w g =
-    record { bytes-long = w .bytes-long; entries-long = w .entries-long; registers = w .registers; settings = g; transmit = w .transmit; receive = w .receive; latches = w .latches }
+  pub sound-receive : (q : EntryQueue) (v : Receiver) (l : Latches) → length (q .entries) ≡ 64 → ReceiveFacts (s .fifo) q v
+      → LatchFacts (s .fifo) (s .tx .count) (q .count) l → Sound (withLatches (withReceiver (withRx s q) v) l)
+  sound-receive q v l long g h =
+      record { bytes-long = w .bytes-long; entries-long = long; registers = w .registers; settings = w .settings; transmit = w .transmit; receive = g; latches = h }
 
-pub sound-frame : {s : State} (p : Frame) → Sound s → FrameFacts p → Sound (withFrame s p)
-sound-frame p w g =
-    record {
-      bytes-long = w .bytes-long;
-      entries-long = w .entries-long;
-      registers = w .registers;
-      settings = w .settings;
-      transmit = record { count-most = w .transmit .count-most; rest = w .transmit .rest; frame = g };
-      receive = w .receive;
-      latches = w .latches;
-    }
+  -- the settings, where both queues fit the new capacity, and FIFO stays on while data is waiting
+  pub sound-settings : (g : FifoControl) (i : Inputs) → SettingFacts g i → s .tx .count ≤ capacity g → s .rx .count ≤ capacity g
+      → (0 < s .rx .count → s .fifo .enabled ≡ 1 → g .enabled ≡ 1) → Sound (withInputs (withFifo s g) i)
+  sound-settings g i facts tx rx on =
+      let y = w .latches .wait in
+      record {
+        bytes-long = w .bytes-long;
+        entries-long = w .entries-long;
+        registers = w .registers;
+        settings = facts;
+        transmit = record { count-most = tx; rest = w .transmit .rest; frame = w .transmit .frame };
+        receive = record { count-most = rx; rest = w .receive .rest; flags = w .receive .flags; receiver = w .receive .receiver };
+        latches =
+            latches-wait (w .latches)
+            (record {
+              timeout-most = y .timeout-most;
+              timeout-on = λ h. on (y .timeout-waiting h) (y .timeout-on h);
+              timeout-waiting = y .timeout-waiting;
+              idle-most = y .idle-most;
+              idle-off = λ h. ⊎-elim (y .idle-none) (λ (n : 0 < s .rx .count). y .idle-off (λ e. h (on n e))) (eq-zero-or-pos (s .rx .count));
+              idle-none = y .idle-none;
+            });
+      }
 
-pub sound-receiver : {s : State} (p : Receiver) → Sound s → ReceiverFacts p → Sound (withReceiver s p)
-sound-receiver p w g =
-    record {
-      bytes-long = w .bytes-long;
-      entries-long = w .entries-long;
-      registers = w .registers;
-      settings = w .settings;
-      transmit = w .transmit;
-      receive = record { count-most = w .receive .count-most; rest = w .receive .rest; flags = w .receive .flags; receiver = g };
-      latches = w .latches;
-    }
+  -- One part alone.
 
-pub sound-latches : {s : State} (p : Latches) → Sound s → LatchFacts (s .fifo) (s .tx .count) (s .rx .count) p → Sound (withLatches s p)
-sound-latches p w g =
-    record { bytes-long = w .bytes-long; entries-long = w .entries-long; registers = w .registers; settings = w .settings; transmit = w .transmit; receive = w .receive; latches = g }
+  pub sound-written : (r : Registers) → (r .ier ≤ 63) × (r .mcr ≤ 63) × (r .lcr ≤ 255) × (r .scr ≤ 255) → Sound (withRegisters s r)
+  sound-written r h =
+      let g = w .registers in
+      sound-registers r (s .baud)
+      (record { ier-most = h .0; mcr-most = h .1; lcr-most = h .2; scr-most = h .3; divisor-most = g .divisor-most; k-most = g .k-most; k-least = g .k-least })
 
--- a queue together with the latches that depend on its count
-pub sound-tx : {s : State} (q : ByteQueue) (l : Latches) → Sound s → length (q .bytes) ≡ 64 → TransmitFacts (s .fifo) q (s .frame)
-    → LatchFacts (s .fifo) (q .count) (s .rx .count) l → Sound (withLatches (withTx s q) l)
-sound-tx q l w long g h =
-    record { bytes-long = long; entries-long = w .entries-long; registers = w .registers; settings = w .settings; transmit = g; receive = w .receive; latches = h }
+  pub sound-inputs : (i : Inputs) → SettingFacts (s .fifo) i → Sound (withInputs s i)
+  sound-inputs i g = sound-settings (s .fifo) i g (w .transmit .count-most) (w .receive .count-most) (λ _ e. e)
 
-pub sound-rx : {s : State} (q : EntryQueue) (l : Latches) → Sound s → length (q .entries) ≡ 64 → ReceiveFacts (s .fifo) q (s .receiver)
-    → LatchFacts (s .fifo) (s .tx .count) (q .count) l → Sound (withLatches (withRx s q) l)
-sound-rx q l w long g h =
-    record { bytes-long = w .bytes-long; entries-long = long; registers = w .registers; settings = w .settings; transmit = w .transmit; receive = g; latches = h }
+  pub sound-frame : (x : Frame) → FrameFacts x → Sound (withFrame s x)
+  sound-frame x g =
+      sound-transmit (s .tx) x (s .latches) (w .bytes-long)
+      (record { count-most = w .transmit .count-most; rest = w .transmit .rest; frame = g })
+      (w .latches)
 
--- the FIFO's settings, where both queues fit the new capacity, and FIFO stays on while data is waiting
-pub sound-fifo : {s : State} (g : FifoControl) → Sound s → SettingFacts g (s .inputs) → s .tx .count ≤ capacity g → s .rx .count ≤ capacity g
-    → (0 < s .rx .count → s .fifo .enabled ≡ 1 → g .enabled ≡ 1) → Sound (withFifo s g)
-sound-fifo {s = s} g w facts tx rx on =
-    let y = w .latches .wait in
-    record {
-      bytes-long = w .bytes-long;
-      entries-long = w .entries-long;
-      registers = w .registers;
-      settings = facts;
-      transmit = record { count-most = tx; rest = w .transmit .rest; frame = w .transmit .frame };
-      receive = record { count-most = rx; rest = w .receive .rest; flags = w .receive .flags; receiver = w .receive .receiver };
-      latches =
-          record {
-            empty = w .latches .empty;
-            wait =
-                record {
-                  timeout-most = y .timeout-most;
-                  timeout-on = λ h. on (y .timeout-waiting h) (y .timeout-on h);
-                  timeout-waiting = y .timeout-waiting;
-                  idle-most = y .idle-most;
-                  idle-off = λ h. ⊎-elim (y .idle-none) (λ (n : 0 < s .rx .count). y .idle-off (λ e. h (on n e))) (eq-zero-or-pos (s .rx .count));
-                  idle-none = y .idle-none;
-                };
-            overrun-most = w .latches .overrun-most;
-            changes-most = w .latches .changes-most;
-            hold-most = w .latches .hold-most;
-          };
-    }
+  pub sound-receiver : (v : Receiver) → ReceiverFacts v → Sound (withReceiver s v)
+  sound-receiver v g =
+      sound-receive (s .rx) v (s .latches) (w .entries-long)
+      (record { count-most = w .receive .count-most; rest = w .receive .rest; flags = w .receive .flags; receiver = g })
+      (w .latches)
+
+  pub sound-latches : (l : Latches) → LatchFacts (s .fifo) (s .tx .count) (s .rx .count) l → Sound (withLatches s l)
+  sound-latches l g = sound-transmit (s .tx) (s .frame) l (w .bytes-long) (w .transmit) g
 
 -- The transmit queue.
 
-pub transmit-put : {f : FifoControl} {q : ByteQueue} {x : Frame} (b : ℕ) → TransmitFacts f q x → TransmitFacts f (putByte (capacity f) q b .queue) x
+pub transmit-put : {f : FifoControl} {q : ByteQueue} {x : Frame} (b : ℕ) → TransmitFacts f q x → TransmitFacts f (putByte (capacity f) q b) x
 unfolding putByte byteRest
 transmit-put {f = f} {q = q} b g =
     record {
@@ -155,7 +120,7 @@ transmit-none g = record { count-most = omega arith; rest = no-bytes-rest; frame
 
 -- The receive queue.
 
-pub receive-put : {f : FifoControl} {q : EntryQueue} {v : Receiver} (e : Entry) → flagsInRange e ≡ true → ReceiveFacts f q v → ReceiveFacts f (putEntry (capacity f) q e .queue) v
+pub receive-put : {f : FifoControl} {q : EntryQueue} {v : Receiver} (e : Entry) → flagsInRange e ≡ true → ReceiveFacts f q v → ReceiveFacts f (putEntry (capacity f) q e) v
 unfolding putEntry entryRest entryFlags
 receive-put {f = f} {q = q} e t g =
     record {
@@ -181,40 +146,20 @@ receive-none g = record { count-most = omega arith; rest = no-entries-rest; flag
 
 -- The latches.
 
--- the transmit-empty latch as given, with m′ bytes queued
-pub latches-empty : {f : FifoControl} {m m′ n : ℕ} {l : Latches} {e : ℕ} → LatchFacts f m n l → EmptyFacts m′ e → LatchFacts f m′ n (withEmpty l e)
-latches-empty g h =
-    record { empty = h; wait = g .wait; overrun-most = g .overrun-most; changes-most = g .changes-most; hold-most = g .hold-most }
-
 -- time-out latch and idle count 0, with any number of characters received
 pub latches-restarted : {f : FifoControl} {m n n′ : ℕ} {l : Latches} → LatchFacts f m n l → LatchFacts f m n′ (restartIdle l)
-latches-restarted g =
-    record { empty = g .empty; wait = omega arith; overrun-most = g .overrun-most; changes-most = g .changes-most; hold-most = g .hold-most }
+latches-restarted g = latches-wait g (omega arith)
 
-pub latches-changes : {f : FifoControl} {m n : ℕ} {l : Latches} {c : ℕ} → LatchFacts f m n l → c ≤ 15 → LatchFacts f m n (withChanges l c)
-latches-changes g h =
-    record { empty = g .empty; wait = g .wait; overrun-most = g .overrun-most; changes-most = h; hold-most = g .hold-most }
-
-abbrev pub withOverrun : Latches → ℕ → Latches
-withOverrun l o =
-    record { empty = l .empty; overrun = o; timeout = l .timeout; changes = l .changes; hold = l .hold; idle = l .idle }
-
--- OE as given, and no less data waiting
-pub latches-overrun : {f : FifoControl} {m n n′ : ℕ} {l : Latches} {o : ℕ} → LatchFacts f m n l → n ≤ n′ → o ≤ 1 → LatchFacts f m n′ (withOverrun l o)
-latches-overrun g more h =
+-- with no less data waiting
+pub latches-more : {f : FifoControl} {m n n′ : ℕ} {l : Latches} → LatchFacts f m n l → n ≤ n′ → LatchFacts f m n′ l
+latches-more g more =
     let y = g .wait in
-    record {
-      empty = g .empty;
-      wait =
-          record {
-            timeout-most = y .timeout-most;
-            timeout-on = y .timeout-on;
-            timeout-waiting = λ e. omega (arith, y .timeout-waiting e);
-            idle-most = y .idle-most;
-            idle-off = y .idle-off;
-            idle-none = λ e. y .idle-none (omega arith);
-          };
-      overrun-most = h;
-      changes-most = g .changes-most;
-      hold-most = g .hold-most;
-    }
+    latches-wait g
+    (record {
+      timeout-most = y .timeout-most;
+      timeout-on = y .timeout-on;
+      timeout-waiting = λ e. omega (arith, y .timeout-waiting e);
+      idle-most = y .idle-most;
+      idle-off = y .idle-off;
+      idle-none = λ e. y .idle-none (omega arith);
+    })

@@ -20,11 +20,11 @@ use Rattle.device.specs.declared.Receiver.{Receiver}
 use Rattle.device.specs.declared.Latches.{Latches}
 use Rattle.device.specs.declared.Reading.{Reading}
 use Rattle.device.specs.declared.State.{State}
-use Rattle.device.specs.State.{withFifo, withRx, withLatches}
+use Rattle.device.specs.State.{withFifo, withRx, withLatches, withEmpty, withDivisor}
 use Rattle.device.specs.Fifo.{capacity}
 use Rattle.device.specs.Modem.{effectiveLevels, changesAfter}
 use Rattle.device.specs.Rbr.{restartIdle, rbrRead}
-use Rattle.device.specs.Thr.{withEmpty, thrWrite}
+use Rattle.device.specs.Thr.{thrWrite}
 use Rattle.device.specs.Ier.{ierWrite}
 use Rattle.device.specs.Iir.{interruptCode, iirRead}
 use Rattle.device.specs.Fcr.{fifoAfter, switched, clearReceive, clearTransmit, fcrWrite}
@@ -33,12 +33,12 @@ use Rattle.device.specs.Mcr.{mcrWrite}
 use Rattle.device.specs.Lsr.{clearErrors, lsrRead}
 use Rattle.device.specs.Msr.{withLevels, msrRead}
 use Rattle.device.specs.Scr.{scrWrite}
-use Rattle.device.specs.Divisor.{withDivisor, divisorLow, divisorHigh, divisorLowWrite, divisorHighWrite}
+use Rattle.device.specs.Divisor.{divisorLow, divisorHigh, divisorLowWrite, divisorHighWrite}
 use Rattle.device.specs.Calls.{byAddress, readRegister, writeRegister}
 use Rattle.invariant.proofs.Tests.{or-neither, not-differ, bit-most, byte-less}
-use Rattle.invariant.proofs.Good.{SettingFacts, ReceiveFacts, LatchFacts}
+use Rattle.invariant.proofs.Good.{SettingFacts, ReceiveFacts, LatchFacts, latches-empty, latches-overrun, latches-changes}
 use Rattle.invariant.proofs.Settled.{Sound}
-use Rattle.invariant.proofs.Parts.{sound-registers, sound-baud, sound-latches, sound-tx, sound-rx, sound-fifo, transmit-put, transmit-none, receive-taken, receive-none, latches-empty, latches-restarted, latches-changes, latches-overrun}
+use Rattle.invariant.proofs.Parts.{sound-registers, sound-written, sound-transmit, sound-receive, sound-settings, sound-latches, transmit-put, transmit-none, receive-taken, receive-none, latches-restarted}
 
 -- the latches of a sound state
 abbrev Latched : State → Latches → Type 0
@@ -49,7 +49,7 @@ Latched s l = LatchFacts (s .fifo) (s .tx .count) (s .rx .count) l
 taken-sound : (s : State) → Sound s → Sound (withLatches (withRx s (takeEntry (s .rx))) (restartIdle (s .latches)))
 unfolding takeEntry
 taken-sound s w =
-    sound-rx (takeEntry (s .rx)) (restartIdle (s .latches)) w
+    sound-receive w (takeEntry (s .rx)) (s .receiver) (restartIdle (s .latches))
     (length-shifted noEntry (s .rx .entries) (omega arith) ∙ w .entries-long)
     (receive-taken (w .receive))
     (latches-restarted (w .latches))
@@ -61,14 +61,14 @@ rbr-read-sound s w = by-test (λ (r : Reading). Sound (r .state)) (eqb (s .rx .c
 pub thr-write-sound : (s : State) (b : ℕ) → Sound s → Sound (thrWrite s b)
 unfolding thrWrite putByte
 thr-write-sound s b w =
-    sound-tx (putByte (capacity (s .fifo)) (s .tx) b .queue) (withEmpty (s .latches) 0) w
+    sound-transmit w (putByte (capacity (s .fifo)) (s .tx) b) (s .frame) (withEmpty (s .latches) 0)
     (length-put (capacity (s .fifo)) (s .tx .count) (s .tx .bytes) b ∙ w .bytes-long)
     (transmit-put b (w .transmit))
     (latches-empty (w .latches) (omega arith))
 
 pub ier-write-sound : (s : State) (b : ℕ) → Sound s → Sound (ierWrite s b)
 unfolding ierWrite
-ier-write-sound s b w = sound-latches _ (sound-registers _ w (omega arith)) (by-test (Latched s) (raised && (bit 1 b && none)) _ _ set (λ _. w .latches))
+ier-write-sound s b w = sound-latches (sound-written w _ (omega arith)) _ (by-test (Latched s) (raised && (bit 1 b && none)) _ _ set (λ _. w .latches))
   where
     raised : Bool
     raised = not (bit 1 (s .registers .ier))
@@ -84,19 +84,19 @@ ier-write-sound s b w = sound-latches _ (sound-registers _ w (omega arith)) (by-
 pub iir-read-sound : (s : State) → Sound s → Sound (iirRead s .state)
 unfolding iirRead
 iir-read-sound s w =
-    by-test Sound (eqb (interruptCode s) 0x02) _ _ (λ _. sound-latches _ w (latches-empty (w .latches) (omega arith))) (λ _. w)
+    by-test Sound (eqb (interruptCode s) 0x02) _ _ (λ _. sound-latches w _ (latches-empty (w .latches) (omega arith))) (λ _. w)
 
 -- FCR write.
 
 pub clear-receive-sound : (s : State) → Sound s → Sound (clearReceive s)
 unfolding clearReceive
 clear-receive-sound s w =
-    sound-rx noEntries (restartIdle (s .latches)) w no-entries-long (receive-none (w .receive .receiver)) (latches-restarted (w .latches))
+    sound-receive w noEntries (s .receiver) (restartIdle (s .latches)) no-entries-long (receive-none (w .receive .receiver)) (latches-restarted (w .latches))
 
 pub clear-transmit-sound : (s : State) → Sound s → Sound (clearTransmit s)
 unfolding clearTransmit noBytes
 clear-transmit-sound s w =
-    sound-tx noBytes _ w no-bytes-long (transmit-none (w .transmit .frame))
+    sound-transmit w noBytes (s .frame) _ no-bytes-long (transmit-none (w .transmit .frame))
     (by-test (LatchFacts (s .fifo) 0 (s .rx .count)) (eqb (s .tx .count) 0) _ _
     (λ e. rw (eqb-true (s .tx .count) 0 e) at (w .latches))
     (λ _. latches-empty (w .latches) (omega arith)))
@@ -137,7 +137,7 @@ fcr-write-sound s b h w = go (switched (s .fifo) g) refl
     kept : switched (s .fifo) g ≡ false → Sound (withFifo s g)
     kept e =
         let same = capacity-same (s .fifo) g e in
-        sound-fifo g w facts (rw (← same) (w .transmit .count-most)) (rw (← same) (w .receive .count-most))
+        sound-settings w g (s .inputs) facts (rw (← same) (w .transmit .count-most)) (rw (← same) (w .receive .count-most))
         (λ _ one. eqb-true (g .enabled) 1 (sym (on-same (s .fifo) g e) ∙ eq-eqb (s .fifo .enabled) 1 one))
 
     -- the receive queue cleared where bit 1 says so, or both change
@@ -150,18 +150,18 @@ fcr-write-sound s b h w = go (switched (s .fifo) g) refl
     go : (both : Bool) → switched (s .fifo) g ≡ both → Sound (cond (both || (bit 0 b && bit 2 b)) (clearTransmit (first both)) (first both))
     go true e =
         let cleared = clear-transmit-sound (clearReceive s) (clear-receive-sound s w) in
-        sound-fifo g cleared facts (omega arith) (omega arith) (λ n. absurd (omega arith))
+        sound-settings cleared g (s .inputs) facts (omega arith) (omega arith) (λ n. absurd (omega arith))
     go false e = by-test Sound (bit 0 b && bit 2 b) _ _ (λ _. clear-transmit-sound _ (first-sound e)) (λ _. first-sound e)
 
 -- LCR, SCR and MCR write.
 
 pub lcr-write-sound : (s : State) (b : ℕ) → b ≤ 255 → Sound s → Sound (lcrWrite s b)
 unfolding lcrWrite
-lcr-write-sound s b h w = sound-registers _ w (omega arith)
+lcr-write-sound s b h w = sound-written w _ (omega arith)
 
 pub scr-write-sound : (s : State) (b : ℕ) → b ≤ 255 → Sound s → Sound (scrWrite s b)
 unfolding scrWrite
-scr-write-sound s b h w = sound-registers _ w (omega arith)
+scr-write-sound s b h w = sound-written w _ (omega arith)
 
 -- the change bits are four
 changes-after-most : (c a b : ℕ) → changesAfter c a b ≤ 15
@@ -181,13 +181,13 @@ changes-after-most c a b =
 pub levels-sound : (s t : State) → Sound t → Sound (withLevels s t)
 unfolding withLevels
 levels-sound s t w =
-    sound-latches _ w
+    sound-latches w _
     (latches-changes (w .latches)
     (changes-after-most (t .latches .changes) (effectiveLevels (s .registers) (s .inputs)) (effectiveLevels (t .registers) (t .inputs))))
 
 pub mcr-write-sound : (s : State) (b : ℕ) → Sound s → Sound (mcrWrite s b)
 unfolding mcrWrite
-mcr-write-sound s b w = levels-sound s _ (sound-registers _ w (omega arith))
+mcr-write-sound s b w = levels-sound s _ (sound-written w _ (omega arith))
 
 -- LSR and MSR read.
 
@@ -216,19 +216,19 @@ errors-cleared {q = q} g =
 pub lsr-read-sound : (s : State) → Sound s → Sound (lsrRead s .state)
 unfolding lsrRead clearErrors
 lsr-read-sound s w =
-    sound-rx (clearErrors (s .rx)) _ w
+    sound-receive w (clearErrors (s .rx)) (s .receiver) _
     (length-set (s .rx .entries) 0 _ ∙ w .entries-long)
     (errors-cleared (w .receive))
-    (latches-overrun (w .latches) (omega arith) (omega arith))
+    (latches-overrun (w .latches) (omega arith))
 
 pub msr-read-sound : (s : State) → Sound s → Sound (msrRead s .state)
 unfolding msrRead
-msr-read-sound s w = sound-latches _ w (latches-changes (w .latches) (omega arith))
+msr-read-sound s w = sound-latches w _ (latches-changes (w .latches) (omega arith))
 
 -- The divisor: k = the new D.
 
 divisor-sound : (s : State) (d : ℕ) → d ≤ 65535 → Sound s → Sound (withDivisor s d)
-divisor-sound s d h w = sound-baud _ w h (omega arith) (λ l. l)
+divisor-sound s d h w = sound-registers w (s .registers) _ (omega arith)
 
 pub divisor-low-sound : (s : State) (b : ℕ) → b ≤ 255 → Sound s → Sound (divisorLowWrite s b)
 unfolding divisorLowWrite
@@ -241,13 +241,15 @@ divisor-high-sound s b h w = divisor-sound s (256 * b + divisorLow s) (omega ari
 -- By address.
 
 -- a claim about what the address picks, from the claim about each of the eight
-by-address : {A : Type 0} (P : A → Type 0) (a : ℕ) (r0 r1 r2 r3 r4 r5 r6 r7 : A) → P r0 → P r1 → P r2 → P r3 → P r4 → P r5 → P r6 → P r7 → P (byAddress a r0 r1 r2 r3 r4 r5 r6 r7)
+pub by-address : {A : Type 0} (P : A → Type 0) (a : ℕ) (r0 r1 r2 r3 r4 r5 r6 r7 : A)
+    → (eqb a 0 ≡ true → P r0) → P r1 → (eqb a 0 ≡ false → eqb a 2 ≡ true → P r2) → P r3 → P r4 → P r5 → P r6 → P r7
+    → P (byAddress a r0 r1 r2 r3 r4 r5 r6 r7)
 by-address P a r0 r1 r2 r3 r4 r5 r6 r7 p0 p1 p2 p3 p4 p5 p6 p7 =
-    by-test P (eqb a 0) _ _ (λ _. p0)
-    (λ _.
+    by-test P (eqb a 0) _ _ p0
+    (λ e.
     by-test P (eqb a 1) _ _ (λ _. p1)
     (λ _.
-    by-test P (eqb a 2) _ _ (λ _. p2)
+    by-test P (eqb a 2) _ _ (p2 e)
     (λ _.
     by-test P (eqb a 3) _ _ (λ _. p3)
     (λ _.
@@ -258,9 +260,9 @@ pub read-sound : (s : State) (a : ℕ) → Sound s → Sound (readRegister s a .
 unfolding readRegister
 read-sound s a w =
     by-address (λ (r : Reading). Sound (r .state)) a _ _ _ _ _ _ _ _
-    (by-test (λ (r : Reading). Sound (r .state)) (divisorAccess (s .registers)) _ _ (λ _. w) (λ _. rbr-read-sound s w))
+    (λ _. by-test (λ (r : Reading). Sound (r .state)) (divisorAccess (s .registers)) _ _ (λ _. w) (λ _. rbr-read-sound s w))
     w
-    (iir-read-sound s w)
+    (λ _ _. iir-read-sound s w)
     w
     w
     (lsr-read-sound s w)
@@ -271,9 +273,9 @@ pub write-sound : (s : State) (a b : ℕ) → b ≤ 255 → Sound s → Sound (w
 unfolding writeRegister
 write-sound s a b h w =
     by-address Sound a _ _ _ _ _ _ _ _
-    (by-test Sound (divisorAccess (s .registers)) _ _ (λ _. divisor-low-sound s b h w) (λ _. thr-write-sound s b w))
+    (λ _. by-test Sound (divisorAccess (s .registers)) _ _ (λ _. divisor-low-sound s b h w) (λ _. thr-write-sound s b w))
     (by-test Sound (divisorAccess (s .registers)) _ _ (λ _. divisor-high-sound s b h w) (λ _. ier-write-sound s b w))
-    (fcr-write-sound s b h w)
+    (λ _ _. fcr-write-sound s b h w)
     (lcr-write-sound s b h w)
     (mcr-write-sound s b w)
     w

@@ -12,9 +12,9 @@ use Rattle.device.specs.declared.FifoControl.{FifoControl}
 use Rattle.device.specs.declared.Latches.{Latches}
 use Rattle.device.specs.declared.State.{State}
 use Rattle.device.specs.Fifo.{triggerLevel}
-use Rattle.device.specs.Autoflow.{autoflow, autoRts, settledChanges, settledHold, settled}
+use Rattle.device.specs.Autoflow.{autoflow, autoRts, settledChanges, settledHold, settledLatches, settled}
 use Rattle.device.specs.Ranges.{wellFormed}
-use Rattle.invariant.proofs.Good.{RegisterFacts, SettingFacts, TransmitFacts, ReceiveFacts, LatchFacts, FlowFacts, Good, Places, of-good, trigger-least}
+use Rattle.invariant.proofs.Good.{RegisterFacts, SettingFacts, TransmitFacts, ReceiveFacts, LatchFacts, FlowFacts, Good, Places, of-good, trigger-least, latches-changes, latches-hold}
 
 -- A sound state obeys every range but the rules that end a step, and has all its places.
 pub record Sound (s : State) : Type 0 where
@@ -58,29 +58,13 @@ hold-most r f n h most =
     (λ _. by-test (λ (x : ℕ). x ≤ 1) (eqb n 0) _ _ (λ _. omega arith) (λ _. most)))
     (λ _. omega arith)
 
-abbrev settledLatches : Registers → FifoControl → ℕ → Latches → Latches
-settledLatches r f n l =
-    record {
-      empty = l .empty;
-      overrun = l .overrun;
-      timeout = l .timeout;
-      changes = settledChanges r f (l .changes);
-      hold = settledHold r f n (l .hold);
-      idle = l .idle;
-    }
-
 latches-settled : (r : Registers) (f : FifoControl) (m n : ℕ) (l : Latches) → LatchFacts f m n l → LatchFacts f m n (settledLatches r f n l)
+unfolding settledLatches
 latches-settled r f m n l g =
-    record {
-      empty = g .empty;
-      wait = g .wait;
-      overrun-most = g .overrun-most;
-      changes-most = changes-most r f (l .changes) (g .changes-most);
-      hold-most = hold-most r f n (l .hold) (g .hold-most);
-    }
+    latches-hold (latches-changes g (changes-most r f (l .changes) (g .changes-most))) (hold-most r f n (l .hold) (g .hold-most))
 
 flow-settled : (r : Registers) (f : FifoControl) (n : ℕ) (l : Latches) → FlowFacts r f n (settledLatches r f n l)
-unfolding settledChanges settledHold
+unfolding settledLatches settledChanges settledHold
 flow-settled r f n l =
     record {
       cts-none = λ h. rw h (omega arith);
@@ -129,7 +113,7 @@ hold-same r f n l g =
     (λ e. sym (g .hold-off e))
 
 pub settled-same : (s : State) → Good s → settled s ≡ s
-unfolding settled
+unfolding settled settledLatches
 settled-same s g =
     rw (
       changes-same (s .registers) (s .fifo) (s .rx .count) (s .latches) (g .flow),

@@ -27,7 +27,7 @@ use Rattle.invariant.proofs.Line.{ticked-sound}
 -- Fresh and reset.
 
 pub reset-sound : (s : State) → Sound s → Sound (resetState s)
-unfolding resetState noBytes noEntries
+unfolding resetState freshOf noBytes noEntries
 reset-sound s w =
     record {
       bytes-long = no-bytes-long;
@@ -51,11 +51,6 @@ reset-sound s w =
 pub fresh-kept : Kept freshOf
 unfolding freshOf wellFormed capacity byteRest noBytes frameLength stopPulses entryRest entryFlags noEntries autoflow autoRts triggerLevel
 fresh-kept = record { well = refl; places = record { bytes-long = refl; entries-long = refl } }
-
--- The inner steps, from the facts of a well-formed state.
-
-pub ticked-kept : (s : State) → Places s → Good s → Kept (settled (ticked s))
-ticked-kept s p g = settled-kept (ticked s) (ticked-sound s (sound-of s p g))
 
 -- The calls. A refusal hands the state back.
 
@@ -87,7 +82,7 @@ module _ (s : State) (places : Places s) (well : wellFormed s ≡ true) where
   sin-kept v =
       let w = sound in
       kept-if (wellFormed s) _ _
-      (λ _. kept-if (leb v 1) _ _ (λ e. settled-kept _ (sound-inputs _ w (omega (arith, leb-true v 1 e)))) same)
+      (λ _. kept-if (leb v 1) _ _ (λ e. settled-kept _ (sound-inputs w _ (omega (arith, leb-true v 1 e)))) same)
       same
 
   pub modem-kept : (v : ℕ) → Kept (modemOf s v .state)
@@ -95,7 +90,7 @@ module _ (s : State) (places : Places s) (well : wellFormed s ≡ true) where
   modem-kept v =
       let w = sound in
       kept-if (wellFormed s) _ _
-      (λ _. kept-if (leb v 15) _ _ (λ e. settled-kept _ (levels-sound s _ (sound-inputs _ w (omega (arith, leb-true v 15 e))))) same)
+      (λ _. kept-if (leb v 15) _ _ (λ e. settled-kept _ (levels-sound s _ (sound-inputs w _ (omega (arith, leb-true v 15 e))))) same)
       same
 
   pub tick-kept : Kept (tickOf s .state)

@@ -1,0 +1,131 @@
+-- Which parts of the state each step touches: the rows of `specs/Touch.antt` hold of the definitions.
+use Prim.Native.Nat.{ℕ}
+use mathlib.Core.Path.{_≡_, refl, sym, ap, _∙_}
+use mathlib.Core.Bool.{Bool, true, false, cond, not, _&&_, _||_, true≢false}
+use lib.Dec.{eqb}
+use borrow.Author.Tests.{eqb-true, not-true, not-false}
+use Rattle.flag.specs.Flag.{bit}
+use Rattle.flag.proofs.Laws.{by-test}
+use Rattle.device.specs.declared.FifoControl.{FifoControl}
+use Rattle.device.specs.declared.State.{State}
+use Rattle.device.specs.State.{withFifo, withLatches}
+use Rattle.device.specs.Autoflow.{settled}
+use Rattle.device.specs.Thr.{thrWrite}
+use Rattle.device.specs.Ier.{ierWrite}
+use Rattle.device.specs.Fcr.{fifoAfter, switched, clearReceive, clearTransmit, fcrWrite}
+use Rattle.device.specs.Lcr.{divisorAccess, lcrWrite}
+use Rattle.device.specs.Mcr.{mcrWrite}
+use Rattle.device.specs.Msr.{withLevels}
+use Rattle.device.specs.Scr.{scrWrite}
+use Rattle.device.specs.Divisor.{divisorLowWrite, divisorHighWrite}
+use Rattle.device.specs.Transmitter.{loaded, ready, shiftedOut, transmitted}
+use Rattle.device.specs.Receiver.{reception, enters, entered, accepted, received}
+use Rattle.device.specs.Idle.{counts, idled}
+use Rattle.device.specs.Tick.{pulsed}
+use Rattle.device.specs.Calls.{writeRegister}
+use Rattle.invariant.specs.Touch.{Parts, byNumbers, byQueues, byPulse, merged, Touches, reachesQueue}
+use Rattle.invariant.proofs.Registers.{by-address}
+
+-- The rules that end a step touch the latches alone.
+pub settled-touches : (p : Parts) → p .latches ≡ true → (s t : State) → Touches p s t → Touches p s (settled t)
+unfolding settled
+settled-touches p on s t e =
+    ap (λ (u : State). withLatches u (settled t .latches)) e
+    ∙ ap (λ (b : Bool). withLatches (merged p s t) (cond b (settled t .latches) (s .latches))) (sym on)
+
+-- A write that reaches no queue.
+
+low-touches : (s : State) (b : ℕ) → Touches byNumbers s (divisorLowWrite s b)
+unfolding divisorLowWrite
+low-touches s b = refl
+
+high-touches : (s : State) (b : ℕ) → Touches byNumbers s (divisorHighWrite s b)
+unfolding divisorHighWrite
+high-touches s b = refl
+
+ier-touches : (s : State) (b : ℕ) → Touches byNumbers s (ierWrite s b)
+unfolding ierWrite
+ier-touches s b = refl
+
+lcr-touches : (s : State) (b : ℕ) → Touches byNumbers s (lcrWrite s b)
+unfolding lcrWrite
+lcr-touches s b = refl
+
+mcr-touches : (s : State) (b : ℕ) → Touches byNumbers s (mcrWrite s b)
+unfolding mcrWrite withLevels
+mcr-touches s b = refl
+
+scr-touches : (s : State) (b : ℕ) → Touches byNumbers s (scrWrite s b)
+unfolding scrWrite
+scr-touches s b = refl
+
+pub numbers-touched : (s : State) (a b : ℕ) → reachesQueue s a ≡ false → Touches byNumbers s (writeRegister s a b)
+unfolding writeRegister
+numbers-touched s a b h =
+    let access = divisorAccess (s .registers) in
+    by-address (Touches byNumbers s) a _ _ _ _ _ _ _ _
+    (λ e. by-test (Touches byNumbers s) access _ _ (λ _. low-touches s b) (λ d. absurd (true≢false (sym (not-false access (simp e at h)) ∙ d))))
+    (by-test (Touches byNumbers s) access _ _ (λ _. high-touches s b) (λ _. ier-touches s b))
+    (λ e f. absurd (true≢false (sym f ∙ simp e at h)))
+    (lcr-touches s b)
+    (mcr-touches s b)
+    refl
+    refl
+    (scr-touches s b)
+
+-- A write that reaches a queue.
+
+thr-touches : (s : State) (b : ℕ) → Touches byQueues s (thrWrite s b)
+unfolding thrWrite
+thr-touches s b = refl
+
+fcr-touches : (s : State) (b : ℕ) → Touches byQueues s (fcrWrite s b)
+unfolding fcrWrite clearReceive clearTransmit
+fcr-touches s b =
+    let g = fifoAfter (s .registers) (s .fifo) b in
+    go g (switched (s .fifo) g || (bit 0 b && bit 1 b)) (switched (s .fifo) g || (bit 0 b && bit 2 b))
+  where
+    go : (g : FifoControl) (receive transmit : Bool) →
+        (let t = withFifo s g in
+        let u = cond receive (clearReceive t) t in
+        Touches byQueues s (cond transmit (clearTransmit u) u))
+    go g true true = refl
+    go g true false = refl
+    go g false true = refl
+    go g false false = refl
+
+pub queues-touched : (s : State) (a b : ℕ) → reachesQueue s a ≡ true → Touches byQueues s (writeRegister s a b)
+unfolding writeRegister
+queues-touched s a b h = go (eqb a 0) refl
+  where
+    go : (z : Bool) → eqb a 0 ≡ z → Touches byQueues s (writeRegister s a b)
+    go true e = simp (e, not-true (divisorAccess (s .registers)) (simp e at h)) (thr-touches s b)
+    go false e = simp (eqb-true a 2 (simp e at h)) (fcr-touches s b)
+
+-- A pulse: its parts one after the other.
+
+then : (s t u : State) → Touches byPulse s t → Touches byPulse t u → Touches byPulse s u
+then s t u e f = f ∙ ap (λ (v : State). merged byPulse v u) e
+
+loaded-touches : (s : State) → Touches byPulse s (loaded s)
+unfolding loaded
+loaded-touches s = by-test (Touches byPulse s) (eqb (s .tx .count) 1) _ _ (λ _. refl) (λ _. refl)
+
+transmitted-touches : (s : State) → Touches byPulse s (transmitted s)
+unfolding transmitted
+transmitted-touches s =
+    by-test (Touches byPulse s) (eqb (shiftedOut (s .frame) .left) 0 && ready s) _ _ (λ _. loaded-touches s) (λ _. refl)
+
+received-touches : (s : State) → Touches byPulse s (received s)
+unfolding received accepted entered
+received-touches s = by-test (Touches byPulse s) (reception s .ended) _ _ (λ _. refl) (λ _. refl)
+
+idled-touches : (new : Bool) (s : State) → Touches byPulse s (idled new s)
+unfolding idled
+idled-touches new s = by-test (Touches byPulse s) (counts (s .fifo) (s .rx .count)) _ _ (λ _. refl) (λ _. refl)
+
+pub pulsed-touches : (s : State) → Touches byPulse s (pulsed s)
+unfolding pulsed
+pulsed-touches s =
+    let t = transmitted s in
+    then s t _ (transmitted-touches s) (then t (received t) _ (received-touches t) (idled-touches (enters t) (received t)))
