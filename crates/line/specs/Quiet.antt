@@ -1,33 +1,19 @@
 -- The quiet pulse: no byte is loaded and no character ends. It changes numbers alone, so that the loop over ticks leaves
 -- the queues where they are. What these definitions say of a pulse is proved against `Tick.antt`.
-use Prim.Native.Nat.{ℕ, _+_, _-_, _*_, _%_, min}
-use mathlib.Core.Bool.{Bool, true, false, cond, not, _&&_, _||_}
-use lib.Dec.{ltb, eqb}
-use Rattle.flag.specs.Flag.{on}
-use Rattle.frame.specs.Format.{formatOf, frameLength}
+use Prim.Native.Nat.{ℕ, _+_, _%_}
+use mathlib.Core.Bool.{Bool, true, false, cond, not, _&&_}
+use lib.Dec.{eqb}
 use Rattle.device.specs.declared.Frame.{Frame}
 use Rattle.device.specs.declared.Receiver.{Receiver}
 use Rattle.device.specs.declared.Received.{Received}
 use Rattle.device.specs.declared.Latches.{Latches}
 use Rattle.device.specs.declared.State.{State}
-use Rattle.device.specs.State.{noFrame}
 use Rattle.device.specs.Modem.{loopback}
-use Rattle.device.specs.Autoflow.{held}
-use Rattle.device.specs.Transmitter.{line}
+use Rattle.device.specs.Transmitter.{line, ready, shiftedOut}
 use Rattle.device.specs.Receiver.{atPosition, receive}
-use Rattle.device.specs.Idle.{withIdle}
+use Rattle.device.specs.Idle.{counts, timeOutAt, counted}
 use Rattle.line.specs.declared.Setting.{Setting}
 use Rattle.line.specs.declared.QuietPulse.{QuietPulse}
-
--- the idle count that times out
-abbrev pub timeOutAt : ℕ → ℕ
-timeOutAt lcr = 4 * frameLength (formatOf lcr)
-
--- one more pulse without a character
-unfoldable pub counted : ℕ → Latches → Latches
-counted limit l =
-    let n = min (l .idle + 1) 769 in
-    withIdle l (cond (ltb limit n) 1 (l .timeout)) n
 
 -- what a pulse looks at and does not change, while the queues stay as they are: whether a byte would be loaded, and
 -- whether the idle count goes on
@@ -37,8 +23,8 @@ settingOf s =
       lcr = s .registers .lcr;
       sin = s .inputs .sin;
       loopback = loopback (s .registers);
-      ready = not (eqb (s .tx .count) 0 || held (s .registers) (s .fifo) (s .inputs));
-      counts = not (not (on (s .fifo .enabled)) || eqb (s .rx .count) 0);
+      ready = ready s;
+      counts = counts (s .fifo) (s .rx .count);
       limit = timeOutAt (s .registers .lcr);
     }
 
@@ -56,10 +42,6 @@ assembled s k x v l =
       receiver = v;
       latches = l;
     }
-
--- the frame after a pulse that loads nothing
-unfoldable pub shiftedOut : Frame → Frame
-shiftedOut x = cond (eqb (x .left - 1) 0) noFrame (record { left = x .left - 1; byte = x .byte; format = x .format })
 
 -- a pulse that only steps on, with so many pulses left of the frame: between two samples of a character, or idle on a line
 -- that is high because nothing is sent, or because SIN is
