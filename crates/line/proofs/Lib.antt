@@ -1,4 +1,1 @@
 pub mod Samples
-pub mod Needed
-pub mod Quieted
-pub mod Going

@@ -1,11 +1,9 @@
--- What the inner functions of a pulse ask of their callers; every well-formed state has it.
+-- What the parts of a pulse ask of their callers; every well-formed state has it.
 use Prim.Native.Nat.{ℕ, _≤_, _<_, _^_, min}
 use Rattle.frame.specs.Format.{dataBits, frameLength}
 use Rattle.device.specs.declared.Frame.{Frame}
 use Rattle.device.specs.declared.Receiver.{Receiver}
-use Rattle.device.specs.declared.Latches.{Latches}
 use Rattle.device.specs.declared.State.{State}
-use Rattle.line.specs.declared.Setting.{Setting}
 use Rattle.device.specs.Ranges.{samplesTaken}
 
 -- L is at most the frame's length
@@ -27,15 +25,3 @@ pub record Hearing (s : State) : Type 0 where
   pub sent : Sent (s .frame)
   pub sin : s .inputs .sin ≤ 1
   pub placed : Placed (s .receiver)
-
--- a quiet pulse
-pub record Quieting (c : Setting) (x : Frame) (v : Receiver) (l : Latches) : Type 0 where
-  pub sent : Sent x
-  pub sin : c .sin ≤ 1
-  pub placed : Placed v
-  pub idle : l .idle ≤ 769
-
--- a pulse
-pub record Pulsing (s : State) : Type 0 where
-  pub hearing : Hearing s
-  pub idle : s .latches .idle ≤ 769

@@ -1,15 +1,13 @@
 // The idle count's part of a pulse.
+use device::FifoControl;
 use device::Latches;
 use device::State;
 use sheet::limits;
 ghost use mathlib.Core.Path.{_≡_};
-ghost use mathlib.Core.Bool.{cond, not, _||_};
-ghost use Prim.Native.Nat.{_≤_, _+_, _*_, min};
-ghost use lib.Dec.{ltb, eqb};
-ghost use Rattle.flag.specs.Flag.{on};
-ghost use Rattle.frame.specs.Format.{formatOf, frameLength};
-ghost use Rattle.device.specs.Idle.{withIdle, idled};
-ghost use Rattle.line.specs.Quiet.{counted as «counted-of», timeOutAt};
+ghost use mathlib.Core.Bool.{cond};
+ghost use Prim.Native.Nat.{_≤_, _+_, min};
+ghost use lib.Dec.{ltb};
+ghost use Rattle.device.specs.Idle.{counts as «counts-of», timeOutAt, counted as «counted-of», idled};
 
 // The idle count that times out: four frames in the format of LCR.
 pub fn limit(lcr: u8) -> u32
@@ -46,13 +44,10 @@ pub fn counted(limit: u32, l: Latches) -> Latches
 }
 
 // Whether the idle count goes on: the FIFO is on and data is waiting.
-pub fn counts(enabled: u8, received: u32) -> bool
-    ensures { λ r. ⌜ r ≡ not (not (on enabled) || eqb received 0) ⌝ }
+pub fn counts(f: FifoControl, received: u32) -> bool
+    ensures { λ r. ⌜ r ≡ «counts-of» f received ⌝ }
 {
-    if enabled != 1 {
-        return false;
-    }
-    received != 0
+    flag::both(f.enabled == 1, received != 0)
 }
 
 // The idle count's part of a pulse, in which a character entered the queue or not.
@@ -60,7 +55,8 @@ pub fn idle(entered: bool, s: State) -> State
     requires { ⌜ s .latches .idle ≤ 769 ⌝ }
     ensures { λ r. ⌜ r ≡ idled entered s ⌝ }
 {
-    if !counts(s.fifo.enabled, s.rx.count) {
+    let f = s.fifo;
+    if !counts(f, s.rx.count) {
         return s;
     }
     let mut next = s;

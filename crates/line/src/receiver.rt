@@ -12,15 +12,12 @@ use device::sampling;
 use queue::Entry;
 ghost use mathlib.Core.Path.{_≡_};
 ghost use mathlib.Core.Bool.{cond, not, _&&_};
-ghost use Prim.Native.Nat.{_<_, _≤_};
-ghost use Rattle.frame.specs.Format.{frameLength};
+ghost use Prim.Native.Nat.{_≤_};
 ghost use Rattle.queue.specs.Queue.{isFull};
-ghost use Rattle.device.specs.State.{idleReceiver};
 ghost use Rattle.device.specs.Fifo.{capacity};
 ghost use Rattle.device.specs.Transmitter.{line};
-ghost use Rattle.device.specs.Receiver.{goesOn, startAt, waiting as «waiting-receiver», isBreak, entryOf, stopSample, sampled, atPosition, inCharacter, receive as «receive-of», reception, entered, accepted};
-ghost use Rattle.line.specs.Needs.{Placed, Sampling, Sent, Hearing};
-ghost use Rattle.line.specs.Quiet.{steady as «steady-of», stepped};
+ghost use Rattle.device.specs.Receiver.{goesOn, startAt, isBreak, entryOf, stopSample, sampled, atPosition, inCharacter, receive as «receive-of», reception, entered, accepted};
+ghost use Rattle.line.specs.Needs.{Sampling, Sent, Hearing};
 
 // The receiver in no character: idle, or waiting for mark.
 fn outside(phase: u8) -> Receiver
@@ -125,7 +122,7 @@ fn sample(level: u8, v: Receiver) -> Receiver
 }
 
 // The character at a position.
-fn at_position(position: u32, v: Receiver) -> Receiver
+pub fn at_position(position: u32, v: Receiver) -> Receiver
     ensures { λ r. ⌜ r ≡ atPosition position v ⌝ }
 {
     let mut next = v;
@@ -173,36 +170,6 @@ pub fn receive(level: u8, lcr: u8, v: Receiver) -> Received
     goes_on(v)
 }
 
-// Whether the pulse only steps on, with so many pulses left of the frame: between two samples of a
-// character, or idle on a line that is high because nothing is sent, or because SIN is. No level is
-// computed for it.
-pub fn steady(loopback: bool, left: u32, sin: u8, v: Receiver) -> bool
-    requires { ⌜ Placed v ⌝ }
-    ensures { λ r. ⌜ r ≡ «steady-of» loopback left sin v ⌝ }
-{
-    if v.phase == CHARACTER {
-        return (v.position + 1) % 16 != 8;
-    }
-    if v.phase != IDLE {
-        return false;
-    }
-    if loopback {
-        return left == 0;
-    }
-    sin == 1
-}
-
-// The receiver after such a pulse: in a character at the next position, else as it was.
-pub fn step(v: Receiver) -> Receiver
-    requires { ⌜ Placed v ⌝ }
-    ensures { λ r. ⌜ r ≡ stepped v ⌝ }
-{
-    if v.phase == CHARACTER {
-        return at_position(v.position + 1, v);
-    }
-    v
-}
-
 // The level that the receiver hears: in loopback the transmitter's line, else SIN.
 pub fn heard(loopback: bool, x: Frame, sin: u8) -> u8
     requires { ⌜ Sent x ⌝ }
@@ -227,12 +194,19 @@ pub fn hear(s: State) -> Received
     receive(level, r.lcr, v)
 }
 
+// Whether the queue is full.
+fn is_full(s: State) -> bool
+    ensures { λ r. ⌜ r ≡ isFull (capacity (s .fifo)) (s .rx .count) ⌝ }
+{
+    let f = s.fifo;
+    fifo::capacity(f) <= s.rx.count
+}
+
 // Whether a character enters the queue in this pulse, where one ended or not.
 pub fn enters(s: State, ended: bool) -> bool
     ensures { λ r. ⌜ r ≡ (ended && not (isFull (capacity (s .fifo)) (s .rx .count))) ⌝ }
 {
-    let f = s.fifo;
-    flag::both(ended, s.rx.count < fifo::capacity(f))
+    flag::both(ended, !is_full(s))
 }
 
 // OE after a put.
@@ -248,11 +222,10 @@ fn enter(s: State, e: Entry) -> State
 {
     let f = s.fifo;
     let q = s.rx;
-    let p = queue::entries::put(q, fifo::capacity(f), e);
     let mut l = s.latches;
     let before = l.overrun;
-    l.overrun = overrun(p.full, before);
-    let rx = p.queue;
+    l.overrun = overrun(is_full(s), before);
+    let rx = queue::entries::put(q, fifo::capacity(f), e);
     let mut next = s;
     next.rx = rx;
     next.latches = l;

@@ -4,11 +4,11 @@ use device::State;
 use device::autoflow;
 ghost use mathlib.Core.Path.{_≡_};
 ghost use Prim.Native.Nat.{_<_};
-ghost use Rattle.device.specs.State.{noFrame, withFrame};
-ghost use Rattle.device.specs.Transmitter.{loaded, transmitted};
+ghost use Rattle.device.specs.State.{noFrame};
+ghost use Rattle.device.specs.Transmitter.{ready as «ready-of», shiftedOut, loaded, transmitted};
 
 // No frame is sent.
-pub fn no_frame() -> Frame
+fn no_frame() -> Frame
     ensures { λ r. ⌜ r ≡ noFrame ⌝ }
 {
     Frame {
@@ -16,6 +16,29 @@ pub fn no_frame() -> Frame
         byte: 0,
         format: 0,
     }
+}
+
+// The frame one pulse later: L falls by 1, and at 0 nothing is left of it.
+pub fn shift_out(x: Frame) -> Frame
+    ensures { λ r. ⌜ r ≡ shiftedOut x ⌝ }
+{
+    let left = x.left;
+    if left <= 1 {
+        return no_frame();
+    }
+    let mut next = x;
+    next.left = left - 1;
+    next
+}
+
+// Whether a byte is queued and the transmitter is not held.
+pub fn ready(s: State) -> bool
+    ensures { λ r. ⌜ r ≡ «ready-of» s ⌝ }
+{
+    let r = s.registers;
+    let f = s.fifo;
+    let i = s.inputs;
+    flag::both(s.tx.count != 0, !autoflow::held(r, f, i))
 }
 
 // The oldest byte goes into the shift register, in the format of LCR. Emptying the queue sets the
@@ -45,37 +68,16 @@ fn load(s: State) -> State
     next
 }
 
-// Nothing is sent.
-fn stop(s: State) -> State
-    ensures { λ r. ⌜ r ≡ withFrame s noFrame ⌝ }
-{
-    let none = no_frame();
-    let mut next = s;
-    next.frame = none;
-    next
-}
-
 // The transmitter's part of a pulse: L falls by 1, and at 0 the next byte is loaded, where one is
 // queued and the transmitter is not held.
 pub fn transmit(s: State) -> State
     ensures { λ r. ⌜ r ≡ transmitted s ⌝ }
 {
-    let mut x = s.frame;
-    let left = x.left;
-    if 1 < left {
-        let mut next = s;
-        x.left = left - 1;
-        next.frame = x;
-        return next;
+    let x = shift_out(s.frame);
+    if flag::both(x.left == 0, ready(s)) {
+        return load(s);
     }
-    if s.tx.count == 0 {
-        return stop(s);
-    }
-    let r = s.registers;
-    let f = s.fifo;
-    let i = s.inputs;
-    if autoflow::held(r, f, i) {
-        return stop(s);
-    }
-    load(s)
+    let mut next = s;
+    next.frame = x;
+    next
 }

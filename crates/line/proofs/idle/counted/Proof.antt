@@ -1,5 +1,5 @@
 -- The count and the latch are the definition's.
-use Rattle.line.specs.Quiet.{counted}
+use Rattle.device.specs.Idle.{counted}
 use borrow.Author.Needs.{needs}
 use Rattle.line.proofs.idle.counted.Statement.{statement}
 use Rattle.line.proofs.idle.counted.Tie as tie

@@ -1,9 +1,6 @@
 -- One return for each way of the definition.
-use mathlib.Core.Bool.{_||_, true, false, not}
-use lib.Dec.{eqb}
-use Rattle.line.specs.Quiet.{counted}
-use Rattle.device.specs.Idle.{idled, idleAt}
-use mathlib.Core.Path.{_≡_, sym, _∙_}
+use Rattle.device.specs.Idle.{idled}
+use mathlib.Core.Path.{sym, _∙_}
 use borrow.Author.Tests.{not-true, not-false}
 use borrow.Author.Needs.{needs}
 use Rattle.line.proofs.idle.idle.Statement.{statement}
@@ -14,17 +11,11 @@ counts-requires c κs = search needs
 
 returns : tie.Need-returns
 unfolding idled
-returns c =
-    let s = c .before .before .args .s in
-    let t : (not (eqb (s .fifo .enabled) 1) || eqb (s .rx .count) 0) ≡ true = not-false _ (sym (c .before .counts .ensures) ∙ not-true _ (c .if1 .taken)) in
-    simp t
+returns c = rw (sym (c .before .counts .ensures) ∙ not-true _ (c .if1 .taken))
 
 returns-2 : tie.Need-returns-2
 unfolding idled
-returns-2 c =
-    let s = c .before .before .before .before .args .s in
-    let t : (not (eqb (s .fifo .enabled) 1) || eqb (s .rx .count) 0) ≡ false = not-true _ (sym (c .before .before .before .counts .ensures) ∙ not-false _ (c .before .before .if1 .left)) in
-    simp (t, c .if2 .taken)
+returns-2 c = rw (sym (c .before .before .before .counts .ensures) ∙ not-false _ (c .before .before .if1 .left), c .if2 .taken)
 
 limit-requires : tie.Need-limit-requires
 limit-requires c κs = search needs
@@ -33,11 +24,8 @@ counted-requires : tie.Need-counted-requires
 counted-requires c κs = search needs
 
 returns-3 : tie.Need-returns-3
-unfolding idled idleAt counted
-returns-3 c =
-    let s = c .before .before .before .before .before .before .args .s in
-    let t : (not (eqb (s .fifo .enabled) 1) || eqb (s .rx .count) 0) ≡ false = not-true _ (sym (c .before .before .before .before .before .counts .ensures) ∙ not-false _ (c .before .before .before .before .if1 .left)) in
-    rw (c .counted .ensures, c .before .limit .ensures) (simp (t, c .before .before .if2 .left))
+unfolding idled
+returns-3 c = rw (c .counted .ensures, c .before .limit .ensures, sym (c .before .before .before .before .before .counts .ensures) ∙ not-false _ (c .before .before .before .before .if1 .left), c .before .before .if2 .left)
 
 pub idle-spec : {M : Type 1} → statement M
 idle-spec =

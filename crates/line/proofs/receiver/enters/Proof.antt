@@ -1,19 +1,16 @@
--- Not full is a count below the capacity.
-use Rattle.queue.specs.Queue.{isFull}
-use Rattle.flag.proofs.Laws.{not-leb}
+-- Both tests are the definition's.
 use borrow.Author.Needs.{needs}
 use Rattle.line.proofs.receiver.enters.Statement.{statement}
 use Rattle.line.proofs.receiver.enters.Tie as tie
 
-capacity-requires : tie.Need-capacity-requires
-capacity-requires c κs = search needs
+is-full-requires : tie.Need-is-full-requires
+is-full-requires c κs = search needs
 
 both-requires : tie.Need-both-requires
 both-requires c κs = search needs
 
 returns : tie.Need-returns
-unfolding isFull
-returns c = rw (c .both .ensures, c .before .before .capacity .ensures .0) (simp not-leb)
+returns c = rw (c .both .ensures, c .before .is-full .ensures)
 
 pub enters-spec : {M : Type 1} → statement M
-enters-spec = tie.close (tie.spec capacity-requires both-requires returns)
+enters-spec = tie.close (tie.spec is-full-requires both-requires returns)

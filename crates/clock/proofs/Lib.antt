@@ -1,0 +1,3 @@
+pub mod Needed
+pub mod Quieted
+pub mod Going

@@ -1,0 +1,15 @@
+-- The count against the capacity.
+use Rattle.queue.specs.Queue.{isFull}
+use borrow.Author.Needs.{needs}
+use Rattle.line.proofs.receiver.is_full.Statement.{statement}
+use Rattle.line.proofs.receiver.is_full.Tie as tie
+
+capacity-requires : tie.Need-capacity-requires
+capacity-requires c κs = search needs
+
+returns : tie.Need-returns
+unfolding isFull
+returns c = rw (c .before .capacity .ensures .0)
+
+pub is-full-spec : {M : Type 1} → statement M
+is-full-spec = tie.close (tie.spec capacity-requires returns)
