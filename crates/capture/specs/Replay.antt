@@ -3,12 +3,13 @@ use Prim.Native.Nat.{ℕ, suc}
 use mathlib.Core.Path.{_≡_}
 use mathlib.Core.Bool.{Bool, true, cond, not, _&&_}
 use mathlib.Core.List.{List, [], _∷_, _++_}
-use lib.Dec.{eqb}
-use Rattle.recorder.specs.Record.{kind, byKind, count, address, byte, sin, modem, good, isRead}
+use lib.Dec.{ltb, eqb}
+use lib.ListN.{length, getD}
+use Rattle.recorder.specs.Record.{byte, good, isRead}
 use Rattle.recorder.specs.File.{known}
 use Rattle.device.specs.declared.State.{State}
 use Rattle.device.specs.Ranges.{wellFormed}
-use Rattle.device.specs.Calls.{resetOf, readOf, writeOf, sinOf, modemOf, ticksOf}
+use Rattle.step.specs.Record.{stepOf}
 use Rattle.capture.specs.declared.Outcome.{Outcome}
 use Rattle.capture.specs.declared.Replayed.{Replayed}
 use Rattle.capture.specs.declared.Values.{Values}
@@ -31,21 +32,9 @@ valuesOf Outcome.Agreed = record { number = 0; place = 0; seen = 0; model = 0 }
 valuesOf (Outcome.Differs place seen model) = record { number = 0; place = place; seen = seen; model = model }
 valuesOf (Outcome.Refused number place) = record { number = number; place = place; seen = 0; model = 0 }
 
--- the state after a good record: the call of document 01 that it stands for
-unfoldable pub stepOf : State → ℕ → State
-stepOf s w =
-    byKind (kind w)
-    (ticksOf (count w) s)
-    (readOf s (address w) .state)
-    (writeOf s (address w) (byte w) .state)
-    (sinOf s (sin w) .state)
-    (modemOf s (modem w) .state)
-    (resetOf s .state)
-    s
-
 -- the byte that the model answers at a read
 abbrev pub modelByte : State → ℕ → ℕ
-modelByte s w = readOf s (address w) .byte
+modelByte s w = stepOf s w .shown .byte
 
 -- a read whose byte differs from the model's
 unfoldable pub differing : State → ℕ → Bool
@@ -57,7 +46,7 @@ unfoldable pub replayFrom : ℕ → State → List ℕ → Replayed
 replayFrom place s [] = agreed s
 replayFrom place s (w ∷ ws) =
     cond (good w)
-    (cond (differing s w) (differs s place (byte w) (modelByte s w)) (replayFrom (suc place) (stepOf s w) ws))
+    (cond (differing s w) (differs s place (byte w) (modelByte s w)) (replayFrom (suc place) (stepOf s w .state) ws))
     (refused 8 s place)
 
 -- replay of records of a version: 1 for a state that is not well formed, then 7 for an unknown version
@@ -65,10 +54,24 @@ unfoldable pub replayOf : ℕ → State → List ℕ → Replayed
 replayOf version s ws =
     cond (wellFormed s) (cond (known version) (replayFrom 0 s ws) (refused 7 s 0)) (refused 1 s 0)
 
+-- Where a replay stops.
+
+-- a good record stands at a place
+unfoldable pub goodAt : List ℕ → ℕ → Bool
+goodAt ws place = ltb place (length ws) && good (getD ws place 0)
+
+-- the answer at the place where it stops: behind the last record, at a bad one, or at a read that the model answers
+-- otherwise
+unfoldable pub stoppedAt : State → List ℕ → ℕ → ℕ → Replayed
+stoppedAt s ws place model =
+    cond (ltb place (length ws))
+    (cond (good (getD ws place 0)) (differs s place (byte (getD ws place 0)) model) (refused 8 s place))
+    (agreed s)
+
 -- the records' steps one by one
 abbrev pub stepsOf : List ℕ → State → State
 stepsOf [] s = s
-stepsOf (w ∷ ws) s = stepsOf ws (stepOf s w)
+stepsOf (w ∷ ws) s = stepsOf ws (stepOf s w .state)
 
 -- what a replay that agrees says: every read saw what the model answers there, and the end state is that of the steps,
 -- and well formed

@@ -2,18 +2,19 @@
 //
 // The definitions that the contracts cite stand in `specs/Replay.antt`.
 pub mod parts;
-pub mod step;
 
 use device::State;
 use ranges::well_formed;
 use recorder::file;
 use recorder::record;
+use step::recorded;
 use sheet::answer;
 ghost use mathlib.Core.Path.{_≡_};
-ghost use mathlib.Core.Bool.{true, cond};
+ghost use mathlib.Core.Bool.{true, not, _&&_};
+ghost use lib.Dec.{eqb};
 ghost use Rattle.device.specs.Ranges.{wellFormed};
-ghost use Rattle.recorder.specs.Record.{good as «good-record», byte as «byte-of»};
-ghost use Rattle.capture.specs.Replay.{differs as «differs-at», refused as «refused-at», valuesOf, replayFrom, replayOf, Agrees};
+ghost use Rattle.recorder.specs.Record.{isRead, byte as «byte-of»};
+ghost use Rattle.capture.specs.Replay.{goodAt, stoppedAt, refused as «refused-at», valuesOf, replayFrom, replayOf, Agrees};
 
 // How a replay ended: every read agreed, one differs, or a refusal.
 pub enum Outcome {
@@ -73,10 +74,38 @@ fn refused(number: u8, s: State, place: usize) -> Replayed
     }
 }
 
-// The answer at a record that ends a replay: it is bad, or a read that the model answers otherwise.
-fn stopped(s: State, w: u32, place: usize, model: u8) -> Replayed
-    ensures { λ r. ⌜ r ≡ cond («good-record» w) («differs-at» s place («byte-of» w) model) («refused-at» 8 s place) ⌝ }
+// Whether a good record stands at a place.
+fn good_at(records: &[u32], place: usize) -> bool
+    ensures { λ r. ⌜ r ≡ goodAt (now (records .entry)) place ⌝ }
 {
+    if records.len() <= place {
+        return false;
+    }
+    record::good(records[place])
+}
+
+// Whether a record is a read that saw another byte than the model's.
+fn differs(w: u32, model: u8) -> bool
+    ensures { λ r. ⌜ r ≡ (isRead w && not (eqb («byte-of» w) model)) ⌝ }
+{
+    if record::kind(w) != record::READ {
+        return false;
+    }
+    record::byte(w) != model
+}
+
+// The answer at the place where a replay stops: behind the last record, at a bad one, or at a read
+// that the model answers otherwise.
+fn stopped(s: State, records: &[u32], place: usize, model: u8) -> Replayed
+    ensures { λ r. ⌜ r ≡ stoppedAt s (now (records .entry)) place model ⌝ }
+{
+    if records.len() <= place {
+        return Replayed {
+            state: s,
+            outcome: Outcome::Agreed,
+        };
+    }
+    let w = records[place];
     if !record::good(w) {
         return refused(answer::BAD_RECORD, s, place);
     }
@@ -91,8 +120,7 @@ fn stopped(s: State, w: u32, place: usize, model: u8) -> Replayed
 }
 
 // Replays records one by one from a well-formed state, up to the first that is bad or a read that
-// differs. What a record does not touch stays where it is: most reads change nothing, most writes
-// no queue.
+// differs. What a record does not touch stays where it is.
 fn replay_records(s: State, records: &[u32]) -> Replayed
     requires { ⌜ wellFormed s ≡ true ⌝ }
     ensures { λ r. ⌜ r ≡ replayFrom 0 s (now (records .entry)) ⌝ }
@@ -101,59 +129,43 @@ fn replay_records(s: State, records: &[u32]) -> Replayed
     let mut model: u8 = 0;
     let mut i: usize = 0;
     let place = loop {
-        if records.len() <= i {
+        if !good_at(records, i) {
             break i;
         }
         let w = records[i];
-        if !record::good(w) {
+        let shown = recorded::shown(t, w);
+        model = shown.byte;
+        if differs(w, model) {
             break i;
         }
-        if record::kind(w) == record::WRITE {
-            if registers::reaches_queue(t, record::address(w)) {
-                let n = step::write_queue(t, w);
-                let fifo = n.fifo;
-                let tx = n.tx;
-                let rx = n.rx;
+        match recorded::way(t, w) {
+            recorded::NOTHING => {}
+            recorded::NUMBERS => {
+                let n = recorded::numbers(t, w);
+                let registers = n.registers;
+                let baud = n.baud;
                 let latches = n.latches;
-                t.fifo = fifo;
-                t.tx = tx;
-                t.rx = rx;
+                t.registers = registers;
+                t.baud = baud;
                 t.latches = latches;
-                i += 1;
-                continue;
             }
-            let n = step::write_numbers(t, w);
-            let registers = n.registers;
-            let baud = n.baud;
-            let latches = n.latches;
-            t.registers = registers;
-            t.baud = baud;
-            t.latches = latches;
-            i += 1;
-            continue;
-        }
-        if record::kind(w) != record::READ {
-            t = step::step(t, w);
-            i += 1;
-            continue;
-        }
-        let a = record::address(w);
-        model = registers::value(t, a);
-        if model != record::byte(w) {
-            break i;
-        }
-        if registers::read_changes(t, a) {
-            t = step::after_read(t, a);
+            recorded::TRANSMIT => {
+                let n = recorded::transmit(t, w);
+                let tx = n.tx;
+                let latches = n.latches;
+                t.tx = tx;
+                t.latches = latches;
+            }
+            recorded::READ => {
+                t = recorded::after_read(t, w);
+            }
+            _ => {
+                t = recorded::after(t, w);
+            }
         }
         i += 1;
     };
-    if records.len() <= place {
-        return Replayed {
-            state: t,
-            outcome: Outcome::Agreed,
-        };
-    }
-    stopped(t, records[place], place, model)
+    stopped(t, records, place, model)
 }
 
 // Replays records of a version from a state.

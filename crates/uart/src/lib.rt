@@ -52,12 +52,11 @@ fn refused(number: u8, s: State) -> Answer
     }
 }
 
-// The answer of a step that is done: the state as its last rules leave it, and the pins then.
-fn done(s: State, byte: u8) -> Answer
-    requires { ⌜ s .frame .left ≤ frameLength (s .frame .format) ⌝ }
-    ensures { λ r. ⌜ r ≡ «done-of» s byte ⌝ }
+// The answer of a step that left this state: the pins are those after it.
+fn answered(t: State, byte: u8) -> Answer
+    requires { ⌜ t .frame .left ≤ frameLength (t .frame .format) ⌝ }
+    ensures { λ r. ⌜ r ≡ record { number = 0; byte = byte; outputs = «outputs-of» t; state = t } ⌝ }
 {
-    let t = autoflow::settle(s);
     Answer {
         number: answer::DONE,
         byte,
@@ -80,7 +79,7 @@ pub fn reset(s: State) -> Answer
     if !well_formed(s) {
         return refused(answer::MALFORMED, s);
     }
-    done(device::reset(s), 0)
+    answered(step::reset(s), 0)
 }
 
 // A register read at an address.
@@ -93,9 +92,9 @@ pub fn read(s: State, address: u8) -> Answer
     if limits::ADDRESS_MOST < address {
         return refused(answer::BAD_ADDRESS, s);
     }
-    let r = registers::read_register(s, address);
+    let r = step::read(s, address);
     let t = r.state;
-    done(t, r.byte)
+    answered(t, r.byte)
 }
 
 // A register write of a byte at an address.
@@ -108,7 +107,7 @@ pub fn write(s: State, address: u8, byte: u8) -> Answer
     if limits::ADDRESS_MOST < address {
         return refused(answer::BAD_ADDRESS, s);
     }
-    done(registers::write_register(s, address, byte), 0)
+    answered(step::write(s, address, byte), 0)
 }
 
 // The pin SIN at a level.
@@ -121,7 +120,7 @@ pub fn set_sin(s: State, level: u8) -> Answer
     if limits::SIN_MOST < level {
         return refused(answer::BAD_LEVEL, s);
     }
-    done(with_inputs(s, s.inputs.modem, level), 0)
+    answered(step::set_sin(s, level), 0)
 }
 
 // The modem pins CTS, DSR, RI, DCD asserted as bits 0..3 say.
@@ -134,7 +133,7 @@ pub fn set_modem(s: State, levels: u8) -> Answer
     if limits::MODEM_MOST < levels {
         return refused(answer::BAD_LEVEL, s);
     }
-    done(msr::with_levels(s, with_inputs(s, levels, s.inputs.sin)), 0)
+    answered(step::set_modem(s, levels), 0)
 }
 
 // One tick of the clock.
@@ -151,13 +150,7 @@ pub fn ticks(s: State, n: u32) -> Answer
     if !well_formed(s) {
         return refused(answer::MALFORMED, s);
     }
-    let t = tick::advance(s, n);
-    Answer {
-        number: answer::DONE,
-        byte: 0,
-        outputs: outputs(t),
-        state: t,
-    }
+    answered(step::ticks(s, n), 0)
 }
 
 // The output pins as they are.
@@ -176,42 +169,14 @@ pub fn pins(s: State) -> Looked
     }
 }
 
-// The number that the forecast answers: work left without a clock, or bytes queued and held back.
+// The number that the forecast answers.
 fn forecast_number(s: State) -> u8
     ensures { λ r. ⌜ r ≡ forecastNumber s ⌝ }
 {
     if !well_formed(s) {
         return answer::MALFORMED;
     }
-    let count = s.tx.count;
-    let work = flag::either(0 < s.frame.left, 0 < count);
-    if flag::both(work, s.baud.divisor == 0) {
-        return answer::NO_CLOCK;
-    }
-    let r = s.registers;
-    let f = s.fifo;
-    let i = s.inputs;
-    if flag::both(0 < count, autoflow::held(r, f, i)) {
-        return answer::HELD_BACK;
-    }
-    answer::DONE
-}
-
-// p, the pulses until queue and shift register are both empty.
-fn pulses_to_come(s: State) -> u32
-    requires { ⌜ forecastNumber s ≡ 0 ⌝ }
-    ensures { λ r. ⌜ r ≡ pulsesToCome s ⌝ }
-{
-    let length = frame::frame_length(s.registers.lcr % 64);
-    forecast::pulses_left(s.frame.left, s.tx.count, length)
-}
-
-// T, the ticks until then.
-fn ticks_to_come(s: State) -> u32
-    requires { ⌜ forecastNumber s ≡ 0 ⌝ }
-    ensures { λ r. ⌜ r ≡ ticksToCome s ⌝ }
-{
-    forecast::ticks_left(s.baud.k, s.baud.divisor, pulses_to_come(s))
+    forecast::number(s)
 }
 
 // The forecast: the ticks until queue and shift register are both empty. Whatever number of ticks
@@ -228,7 +193,7 @@ pub fn forecast(s: State) -> Forecasted
     }
     Forecasted {
         number: answer::DONE,
-        ticks: ticks_to_come(s),
+        ticks: forecast::ticks_to_come(s),
     }
 }
 
@@ -241,25 +206,10 @@ pub fn level(s: State, t: u32) -> Leveled
     if number != answer::DONE {
         return Leveled { number, level: 0 };
     }
-    let x = s.frame;
-    let tx = s.tx;
-    let p = pulses_to_come(s);
-    let q = forecast::place_after(s.baud.k, s.baud.divisor, p, t);
     Leveled {
         number: answer::DONE,
-        level: forecast::level_at(x, tx, s.registers.lcr % 64, p, q),
+        level: forecast::level_after(s, t),
     }
-}
-
-// The ticks that run uses of at most n.
-fn used(s: State, n: u32) -> u32
-    ensures { λ r. ⌜ r ≡ usedOf s n ⌝ }
-{
-    if forecast_number(s) != answer::DONE {
-        return n;
-    }
-    let ticks = ticks_to_come(s);
-    if n < ticks { n } else { ticks }
 }
 
 // At most n ticks, until queue and shift register are both empty.
@@ -274,10 +224,10 @@ pub fn run(s: State, n: u32) -> Ran
             state: s,
         };
     }
-    let used = used(s, n);
+    let used = forecast::used(s, n);
     Ran {
         number: answer::DONE,
         used,
-        state: tick::advance(s, used),
+        state: step::ticks(s, used),
     }
 }
