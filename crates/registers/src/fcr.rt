@@ -45,10 +45,13 @@ fn switched(f: FifoControl, g: FifoControl) -> bool
     )
 }
 
-// The receive queue cleared, with its time-out latch and idle count.
-fn clear_receive(s: State) -> State
-    ensures { λ r. ⌜ r ≡ clearReceive s ⌝ }
+// The receive queue cleared where a test says so, with its time-out latch and idle count.
+fn receive_after(s: State, clear: bool) -> State
+    ensures { λ r. ⌜ r ≡ cond clear (clearReceive s) s ⌝ }
 {
+    if !clear {
+        return s;
+    }
     let latches = rbr::restart_idle(s.latches);
     let mut next = s;
     next.rx = queue::entries::clear();
@@ -56,10 +59,13 @@ fn clear_receive(s: State) -> State
     next
 }
 
-// The transmit queue cleared, which sets its latch where bytes were queued.
-fn clear_transmit(s: State) -> State
-    ensures { λ r. ⌜ r ≡ clearTransmit s ⌝ }
+// The transmit queue cleared where a test says so, which sets its latch where bytes were queued.
+fn transmit_after(s: State, clear: bool) -> State
+    ensures { λ r. ⌜ r ≡ cond clear (clearTransmit s) s ⌝ }
 {
+    if !clear {
+        return s;
+    }
     let mut next = s;
     next.tx = queue::bytes::clear();
     if s.tx.count == 0 {
@@ -67,20 +73,6 @@ fn clear_transmit(s: State) -> State
     }
     next.latches = device::with_empty(s.latches, 1);
     next
-}
-
-// The receive queue cleared where a test says so.
-fn receive_after(s: State, clear: bool) -> State
-    ensures { λ r. ⌜ r ≡ cond clear (clearReceive s) s ⌝ }
-{
-    if clear { clear_receive(s) } else { s }
-}
-
-// The transmit queue cleared where a test says so.
-fn transmit_after(s: State, clear: bool) -> State
-    ensures { λ r. ⌜ r ≡ cond clear (clearTransmit s) s ⌝ }
-{
-    if clear { clear_transmit(s) } else { s }
 }
 
 // The settings, then what is cleared.

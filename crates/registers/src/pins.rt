@@ -11,7 +11,7 @@ ghost use Prim.Native.Nat.{_≤_};
 ghost use Rattle.flag.specs.Flag.{bit};
 ghost use Rattle.frame.specs.Format.{frameLength};
 ghost use Rattle.device.specs.Transmitter.{line};
-ghost use Rattle.device.specs.Pins.{intrpt as «intrpt-of», outputs as «outputs-of»};
+ghost use Rattle.device.specs.Pins.{outputs as «outputs-of»};
 
 // SOUT: outside loopback LCR6 makes it low; else it is high in loopback, the transmitter's line
 // outside.
@@ -28,14 +28,8 @@ fn sout(loopback: bool, lcr: u8, x: Frame) -> u8
     frame::line_level(x.left, x.byte, x.format)
 }
 
-// INTRPT is high exactly when the code is not 01.
-fn intrpt(s: State) -> u8
-    ensures { λ r. ⌜ r ≡ «intrpt-of» s ⌝ }
-{
-    flag::bit(iir::interrupt_code(s) != bits::IIR_NO_INT)
-}
-
-// The levels of the output pins; in loopback no modem output is asserted.
+// The levels of the output pins; in loopback no modem output is asserted. INTRPT is high exactly when
+// the code is not 01.
 pub fn outputs(s: State) -> Outputs
     requires { ⌜ s .frame .left ≤ frameLength (s .frame .format) ⌝ }
     ensures { λ r. ⌜ r ≡ «outputs-of» s ⌝ }
@@ -43,7 +37,7 @@ pub fn outputs(s: State) -> Outputs
     let r = s.registers;
     let loopback = modem::loopback(r);
     let sout = sout(loopback, r.lcr, s.frame);
-    let intrpt = intrpt(s);
+    let intrpt = flag::bit(iir::interrupt_code(s) != bits::IIR_NO_INT);
     if loopback {
         return Outputs {
             sout,
