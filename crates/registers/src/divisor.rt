@@ -1,4 +1,5 @@
 // The divisor latches.
+use crate::numbers_of;
 use device::Baud;
 use device::Numbers;
 use device::State;
@@ -27,14 +28,10 @@ pub fn high(s: State) -> u8
 fn with_divisor(s: State, d: u32) -> Numbers
     ensures { λ r. ⌜ r ≡ numbersOf (withDivisor s d) ⌝ }
 {
-    let registers = s.registers;
     let baud = Baud { divisor: d, k: d };
-    let latches = s.latches;
-    Numbers {
-        registers,
-        baud,
-        latches,
-    }
+    let mut next = numbers_of(s);
+    next.baud = baud;
+    next
 }
 
 // The low byte is replaced.

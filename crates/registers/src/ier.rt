@@ -1,4 +1,5 @@
 // IER, interrupt enable register.
+use crate::numbers_of;
 use device::Latches;
 use device::Numbers;
 use device::State;
@@ -30,13 +31,10 @@ fn latches_after(l: Latches, ier: u8, b: u8, count: u32) -> Latches
 pub fn write(s: State, b: u8) -> Numbers
     ensures { λ r. ⌜ r ≡ numbersOf (ierWrite s b) ⌝ }
 {
-    let mut registers = s.registers;
-    let latches = latches_after(s.latches, registers.ier, b, s.tx.count);
-    registers.ier = b % 64;
-    let baud = s.baud;
-    Numbers {
-        registers,
-        baud,
-        latches,
-    }
+    let ier = b % 64;
+    let latches = latches_after(s.latches, s.registers.ier, b, s.tx.count);
+    let mut next = numbers_of(s);
+    next.registers.ier = ier;
+    next.latches = latches;
+    next
 }

@@ -1,4 +1,5 @@
 // LCR, line control register.
+use crate::numbers_of;
 use device::Numbers;
 use device::Registers;
 use device::State;
@@ -18,13 +19,7 @@ pub fn divisor_access(r: Registers) -> bool
 pub fn write(s: State, b: u8) -> Numbers
     ensures { λ r. ⌜ r ≡ numbersOf (lcrWrite s b) ⌝ }
 {
-    let mut registers = s.registers;
-    registers.lcr = b;
-    let baud = s.baud;
-    let latches = s.latches;
-    Numbers {
-        registers,
-        baud,
-        latches,
-    }
+    let mut next = numbers_of(s);
+    next.registers.lcr = b;
+    next
 }

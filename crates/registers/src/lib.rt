@@ -15,3 +15,22 @@ pub mod pins;
 pub mod rbr;
 pub mod scr;
 pub mod thr;
+
+use device::Numbers;
+use device::State;
+ghost use mathlib.Core.Path.{_≡_};
+ghost use Rattle.invariant.specs.Touch.{numbersOf};
+
+// The numbers of a state: what a write may set that reaches no queue.
+pub fn numbers_of(s: State) -> Numbers
+    ensures { λ r. ⌜ r ≡ numbersOf s ⌝ }
+{
+    let registers = s.registers;
+    let baud = s.baud;
+    let latches = s.latches;
+    Numbers {
+        registers,
+        baud,
+        latches,
+    }
+}

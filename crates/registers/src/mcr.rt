@@ -1,5 +1,6 @@
 // MCR, modem control register.
 use crate::msr;
+use crate::numbers_of;
 use device::Numbers;
 use device::State;
 use device::modem;
@@ -11,15 +12,11 @@ ghost use Rattle.invariant.specs.Touch.{numbersOf};
 pub fn write(s: State, b: u8) -> Numbers
     ensures { λ r. ⌜ r ≡ numbersOf (mcrWrite s b) ⌝ }
 {
-    let mut registers = s.registers;
-    let from = modem::effective_levels(registers, s.inputs);
-    registers.mcr = b % 64;
-    let to = modem::effective_levels(registers, s.inputs);
-    let baud = s.baud;
-    let latches = msr::latches_after(s.latches, from, to);
-    Numbers {
-        registers,
-        baud,
-        latches,
-    }
+    let mcr = b % 64;
+    let mut next = numbers_of(s);
+    next.registers.mcr = mcr;
+    let from = modem::effective_levels(s.registers, s.inputs);
+    let to = modem::effective_levels(next.registers, s.inputs);
+    next.latches = msr::latches_after(s.latches, from, to);
+    next
 }

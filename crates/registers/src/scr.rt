@@ -1,4 +1,5 @@
 // SCR, scratch register.
+use crate::numbers_of;
 use device::Numbers;
 use device::State;
 ghost use mathlib.Core.Path.{_≡_};
@@ -9,13 +10,7 @@ ghost use Rattle.invariant.specs.Touch.{numbersOf};
 pub fn write(s: State, b: u8) -> Numbers
     ensures { λ r. ⌜ r ≡ numbersOf (scrWrite s b) ⌝ }
 {
-    let mut registers = s.registers;
-    registers.scr = b;
-    let baud = s.baud;
-    let latches = s.latches;
-    Numbers {
-        registers,
-        baud,
-        latches,
-    }
+    let mut next = numbers_of(s);
+    next.registers.scr = b;
+    next
 }

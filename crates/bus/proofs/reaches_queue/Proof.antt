@@ -2,12 +2,8 @@
 use Prim.Native.Nat.{_-_}
 use borrow.Author.Tests.{ne-eqb}
 use borrow.Author.Needs.{needs}
-use Rattle.registers.proofs.reaches_queue.Statement.{statement}
-use Rattle.registers.proofs.reaches_queue.Tie as tie
-use Rattle.registers.proofs.divisor_access.Reads as divisor-access-reads
-
-divisor-access-requires : tie.Need-divisor-access-requires
-divisor-access-requires c κs = search needs
+use Rattle.bus.proofs.reaches_queue.Statement.{statement}
+use Rattle.bus.proofs.reaches_queue.Tie as tie
 
 returns : tie.Need-returns
 returns c = simp (c .before .if1 .taken, c .divisor-access .ensures)
@@ -16,4 +12,4 @@ returns-2 : tie.Need-returns-2
 returns-2 c = simp (ne-eqb _ _ (c .if1 .left))
 
 pub reaches-queue-spec : {M : Type 1} → statement M
-reaches-queue-spec = tie.close (tie.spec divisor-access-requires returns returns-2)
+reaches-queue-spec = tie.close (tie.spec (λ c κs. search needs) returns returns-2)

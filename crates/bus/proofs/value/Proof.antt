@@ -5,36 +5,8 @@ use Prim.Native.Nat.{_-_}
 use mathlib.Core.Path.{sym, _∙_}
 use borrow.Author.Tests.{ne-eqb}
 use borrow.Author.Needs.{needs}
-use Rattle.registers.proofs.value.Statement.{statement}
-use Rattle.registers.proofs.value.Tie as tie
-use Rattle.registers.proofs.divisor.high.Reads as high-reads
-use Rattle.registers.proofs.divisor.low.Reads as low-reads
-use Rattle.registers.proofs.divisor_access.Reads as divisor-access-reads
-use Rattle.registers.proofs.iir.value.Reads as iir-value-reads
-use Rattle.registers.proofs.lsr.value.Reads as lsr-value-reads
-use Rattle.registers.proofs.msr.value.Reads as msr-value-reads
-use Rattle.registers.proofs.rbr.value.Reads as rbr-value-reads
-
-divisor-access-requires : tie.Need-divisor-access-requires
-divisor-access-requires c κs = search needs
-
-low-requires : tie.Need-low-requires
-low-requires c κs = search needs
-
-value-requires : tie.Need-value-requires
-value-requires c κs = search needs
-
-high-requires : tie.Need-high-requires
-high-requires c κs = search needs
-
-value-requires-2 : tie.Need-value-requires-2
-value-requires-2 c κs = search needs
-
-value-requires-3 : tie.Need-value-requires-3
-value-requires-3 c κs = search needs
-
-value-requires-4 : tie.Need-value-requires-4
-value-requires-4 c κs = search needs
+use Rattle.bus.proofs.value.Statement.{statement}
+use Rattle.bus.proofs.value.Tie as tie
 
 returns : tie.Need-returns
 unfolding readRegister
@@ -81,13 +53,13 @@ pub value-spec : {M : Type 1} → statement M
 value-spec =
     tie.close
     (tie.spec
-    divisor-access-requires
-    low-requires
-    value-requires
-    high-requires
-    value-requires-2
-    value-requires-3
-    value-requires-4
+    (λ c κs. search needs)
+    (λ c κs. search needs)
+    (λ c κs. search needs)
+    (λ c κs. search needs)
+    (λ c κs. search needs)
+    (λ c κs. search needs)
+    (λ c κs. search needs)
     returns
     returns-2
     returns-3

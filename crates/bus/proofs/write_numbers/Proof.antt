@@ -6,36 +6,8 @@ use mathlib.Core.Path.{_≡_, sym, _∙_}
 use mathlib.Core.Bool.{true}
 use borrow.Author.Tests.{ne-eqb, not-false}
 use borrow.Author.Needs.{needs}
-use Rattle.registers.proofs.write_numbers.Statement.{statement}
-use Rattle.registers.proofs.write_numbers.Tie as tie
-use Rattle.registers.proofs.divisor.write_high.Reads as write-high-reads
-use Rattle.registers.proofs.divisor.write_low.Reads as write-low-reads
-use Rattle.registers.proofs.divisor_access.Reads as divisor-access-reads
-use Rattle.registers.proofs.ier.write.Reads as ier-write-reads
-use Rattle.registers.proofs.lcr.write.Reads as lcr-write-reads
-use Rattle.registers.proofs.mcr.write.Reads as mcr-write-reads
-use Rattle.registers.proofs.scr.write.Reads as scr-write-reads
-
-write-low-requires : tie.Need-write-low-requires
-write-low-requires c κs = search needs
-
-divisor-access-requires : tie.Need-divisor-access-requires
-divisor-access-requires c κs = search needs
-
-write-high-requires : tie.Need-write-high-requires
-write-high-requires c κs = search needs
-
-write-requires : tie.Need-write-requires
-write-requires c κs = search needs
-
-write-requires-2 : tie.Need-write-requires-2
-write-requires-2 c κs = search needs
-
-write-requires-3 : tie.Need-write-requires-3
-write-requires-3 c κs = search needs
-
-write-requires-4 : tie.Need-write-requires-4
-write-requires-4 c κs = search needs
+use Rattle.bus.proofs.write_numbers.Statement.{statement}
+use Rattle.bus.proofs.write_numbers.Tie as tie
 
 returns : tie.Need-returns
 unfolding writeRegister
@@ -62,11 +34,11 @@ returns-5 c = simp (c .before .match .keys4, c .write3 .ensures)
 
 returns-6 : tie.Need-returns-6
 unfolding writeRegister
-returns-6 c = simp (c .match .keys5)
+returns-6 c = simp (c .before .match .keys5, c .numbers-of .ensures)
 
 returns-7 : tie.Need-returns-7
 unfolding writeRegister
-returns-7 c = simp (c .match .keys6)
+returns-7 c = simp (c .before .match .keys6, c .numbers-of2 .ensures)
 
 returns-8 : tie.Need-returns-8
 unfolding writeRegister
@@ -77,14 +49,7 @@ returns-8 c = let r = c .before .match .rest in
 pub write-numbers-spec : {M : Type 1} → statement M
 write-numbers-spec =
     tie.close
-    (tie.spec
-    write-low-requires
-    divisor-access-requires
-    write-high-requires
-    write-requires
-    write-requires-2
-    write-requires-3
-    write-requires-4
+    (tie.spec (λ c κs. search needs) (λ c κs. search needs) (λ c κs. search needs) (λ c κs. search needs) (λ c κs. search needs) (λ c κs. search needs) (λ c κs. search needs) (λ c κs. search needs) (λ c κs. search needs)
     returns
     returns-2
     returns-3

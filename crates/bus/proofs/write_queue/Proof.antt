@@ -6,13 +6,8 @@ use mathlib.Core.Path.{_≡_}
 use mathlib.Core.Bool.{false}
 use borrow.Author.Tests.{ne-eqb, eqb-true, not-true}
 use borrow.Author.Needs.{needs}
-use Rattle.registers.proofs.write_queue.Statement.{statement}
-use Rattle.registers.proofs.write_queue.Tie as tie
-use Rattle.registers.proofs.fcr.write.Reads as fcr-write-reads
-use Rattle.registers.proofs.thr.write.Reads as thr-write-reads
-
-write-requires : tie.Need-write-requires
-write-requires c κs = search needs
+use Rattle.bus.proofs.write_queue.Statement.{statement}
+use Rattle.bus.proofs.write_queue.Tie as tie
 
 returns : tie.Need-returns
 unfolding writeRegister
@@ -21,13 +16,10 @@ returns c = let s = c .before .before .args .s in
     not-true (divisorAccess (s .registers)) (simp (c .before .if1 .taken) at (c .before .before .pre)) in
     simp (c .before .if1 .taken, access, c .write .ensures)
 
-write-requires-2 : tie.Need-write-requires-2
-write-requires-2 c κs = search needs
-
 returns-2 : tie.Need-returns-2
 unfolding writeRegister
 returns-2 c = let two = eqb-true (c .before .before .args .address) 2 (simp (ne-eqb _ _ (c .before .if1 .left)) at (c .before .before .pre)) in
     simp (two, c .write2 .ensures)
 
 pub write-queue-spec : {M : Type 1} → statement M
-write-queue-spec = tie.close (tie.spec write-requires returns write-requires-2 returns-2)
+write-queue-spec = tie.close (tie.spec (λ c κs. search needs) returns (λ c κs. search needs) returns-2)

@@ -10,9 +10,10 @@ unfolding mcrWrite withLevels
 returns c =
     rw (
       c .latches-after .ensures,
-      c .before .before .effective-levels2 .ensures,
-      c .before .before .before .effective-levels .ensures,
+      c .before .effective-levels2 .ensures,
+      c .before .before .effective-levels .ensures,
+      c .before .before .before .before .numbers-of .ensures,
     )
 
 pub write-spec : {M : Type 1} → statement M
-write-spec = tie.close (tie.spec (λ c κs. search needs) (λ c κs. search needs) (λ c κs. search needs) returns)
+write-spec = tie.close (tie.spec (λ c κs. search needs) (λ c κs. search needs) (λ c κs. search needs) (λ c κs. search needs) returns)
