@@ -5,7 +5,9 @@ use device::Registers;
 use device::State;
 use sheet::bits;
 ghost use mathlib.Core.Path.{_≡_};
-ghost use mathlib.Core.Bool.{cond};
+ghost use mathlib.Core.Bool.{cond, _&&_, _||_};
+ghost use Prim.Native.Nat.{_<_, _/_, _%_};
+ghost use lib.Dec.{eqb};
 ghost use Rattle.flag.specs.Flag.{bit, bitOf};
 ghost use Rattle.device.specs.Fcr.{fifoAfter, switched as «switched-of», clearReceive, clearTransmit, fcrWrite};
 
@@ -45,10 +47,24 @@ fn switched(f: FifoControl, g: FifoControl) -> bool
     )
 }
 
-// The receive queue cleared, with its time-out latch and idle count.
-fn clear_receive(s: State) -> State
-    ensures { λ r. ⌜ r ≡ clearReceive s ⌝ }
+// Whether a write clears the queue whose bit `clear` is: its bit with FIFO on, or both are cleared.
+fn clears(both: bool, b: u8, clear: u8) -> bool
+    requires { ⌜ 0 < clear ⌝ }
+    ensures { λ r. ⌜ r ≡ (both || (bit 0 b && eqb (b / clear % 2) 1)) ⌝ }
 {
+    flag::either(
+        both,
+        flag::both(flag::has(b, bits::FCR_ENABLE_FIFO), flag::has(b, clear)),
+    )
+}
+
+// The receive queue cleared where a test says so, with its time-out latch and idle count.
+fn receive_after(s: State, clear: bool) -> State
+    ensures { λ r. ⌜ r ≡ cond clear (clearReceive s) s ⌝ }
+{
+    if !clear {
+        return s;
+    }
     let latches = rbr::restart_idle(s.latches);
     let mut next = s;
     next.rx = queue::entries::clear();
@@ -56,10 +72,13 @@ fn clear_receive(s: State) -> State
     next
 }
 
-// The transmit queue cleared, which sets its latch where bytes were queued.
-fn clear_transmit(s: State) -> State
-    ensures { λ r. ⌜ r ≡ clearTransmit s ⌝ }
+// The transmit queue cleared where a test says so, which sets its latch where bytes were queued.
+fn transmit_after(s: State, clear: bool) -> State
+    ensures { λ r. ⌜ r ≡ cond clear (clearTransmit s) s ⌝ }
 {
+    if !clear {
+        return s;
+    }
     let mut next = s;
     next.tx = queue::bytes::clear();
     if s.tx.count == 0 {
@@ -69,29 +88,14 @@ fn clear_transmit(s: State) -> State
     next
 }
 
-// The receive queue cleared where a test says so.
-fn receive_after(s: State, clear: bool) -> State
-    ensures { λ r. ⌜ r ≡ cond clear (clearReceive s) s ⌝ }
-{
-    if clear { clear_receive(s) } else { s }
-}
-
-// The transmit queue cleared where a test says so.
-fn transmit_after(s: State, clear: bool) -> State
-    ensures { λ r. ⌜ r ≡ cond clear (clearTransmit s) s ⌝ }
-{
-    if clear { clear_transmit(s) } else { s }
-}
-
 // The settings, then what is cleared.
 pub fn write(s: State, b: u8) -> State
     ensures { λ r. ⌜ r ≡ fcrWrite s b ⌝ }
 {
     let f = fifo_after(s.registers, s.fifo, b);
     let both = switched(s.fifo, f);
-    let on = flag::has(b, bits::FCR_ENABLE_FIFO);
-    let receive = flag::either(both, flag::both(on, flag::has(b, bits::FCR_CLEAR_RCVR)));
-    let transmit = flag::either(both, flag::both(on, flag::has(b, bits::FCR_CLEAR_XMIT)));
+    let receive = clears(both, b, bits::FCR_CLEAR_RCVR);
+    let transmit = clears(both, b, bits::FCR_CLEAR_XMIT);
     let mut next = s;
     next.fifo = f;
     transmit_after(receive_after(next, receive), transmit)

@@ -9,18 +9,7 @@ ghost use Prim.Native.Nat.{_≤_};
 ghost use lib.Dec.{leb, ltb};
 ghost use Rattle.flag.specs.Flag.{on};
 ghost use Rattle.device.specs.Fifo.{triggerLevel};
-ghost use Rattle.device.specs.Iir.{lineStatus, dataAvailable, timeOut, transmitEmpty, modemStatus, interruptCode, fifoCode, iirRead};
-
-// Receiver line status: an overrun, or an error of the oldest entry.
-fn line_status(s: State) -> bool
-    ensures { λ r. ⌜ r ≡ lineStatus s ⌝ }
-{
-    let e = rbr::oldest(s.rx);
-    flag::both(
-        flag::has(s.registers.ier, bits::IER_RLSI),
-        flag::either(s.latches.overrun == 1, queue::entries::has_error(e)),
-    )
-}
+ghost use Rattle.device.specs.Iir.{interruptCode, fifoCode, iirRead};
 
 // Whether so many received characters are enough: the trigger level, or one in character mode.
 fn enough(f: FifoControl, count: u32) -> bool
@@ -30,46 +19,6 @@ fn enough(f: FifoControl, count: u32) -> bool
         return 0 < count;
     }
     device::fifo::trigger_level(f) <= count
-}
-
-// Received data available.
-fn data_available(s: State) -> bool
-    ensures { λ r. ⌜ r ≡ dataAvailable s ⌝ }
-{
-    flag::both(
-        flag::has(s.registers.ier, bits::IER_RDI),
-        enough(s.fifo, s.rx.count),
-    )
-}
-
-// Character time-out.
-fn time_out(s: State) -> bool
-    ensures { λ r. ⌜ r ≡ timeOut s ⌝ }
-{
-    flag::both(
-        flag::has(s.registers.ier, bits::IER_RDI),
-        s.latches.timeout == 1,
-    )
-}
-
-// Transmitter holding register empty.
-fn transmit_empty(s: State) -> bool
-    ensures { λ r. ⌜ r ≡ transmitEmpty s ⌝ }
-{
-    flag::both(
-        flag::has(s.registers.ier, bits::IER_THRI),
-        s.latches.empty == 1,
-    )
-}
-
-// Modem status: a change bit.
-fn modem_status(s: State) -> bool
-    ensures { λ r. ⌜ r ≡ modemStatus s ⌝ }
-{
-    flag::both(
-        flag::has(s.registers.ier, bits::IER_MSI),
-        0 < s.latches.changes,
-    )
 }
 
 // The code of the first cause that applies.
@@ -94,16 +43,22 @@ fn first_of(line: bool, available: bool, late: bool, empty: bool, moved: bool) -
     bits::IIR_NO_INT
 }
 
-// The identification code.
+// The identification code. Each cause counts where IER enables its interrupt.
 pub fn interrupt_code(s: State) -> u8
     ensures { λ r. ⌜ (r ≡ interruptCode s) × (r ≤ 12) ⌝ }
 {
+    let ier = s.registers.ier;
+    let l = s.latches;
+    let error = queue::entries::has_error(rbr::oldest(s.rx));
     first_of(
-        line_status(s),
-        data_available(s),
-        time_out(s),
-        transmit_empty(s),
-        modem_status(s),
+        flag::both(
+            flag::has(ier, bits::IER_RLSI),
+            flag::either(l.overrun == 1, error),
+        ),
+        flag::both(flag::has(ier, bits::IER_RDI), enough(s.fifo, s.rx.count)),
+        flag::both(flag::has(ier, bits::IER_RDI), l.timeout == 1),
+        flag::both(flag::has(ier, bits::IER_THRI), l.empty == 1),
+        flag::both(flag::has(ier, bits::IER_MSI), 0 < l.changes),
     )
 }
 

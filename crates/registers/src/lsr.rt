@@ -5,23 +5,17 @@ use queue::Entry;
 use queue::EntryQueue;
 ghost use mathlib.Core.Path.{_≡_};
 ghost use mathlib.Core.Bool.{false};
-ghost use Rattle.device.specs.Lsr.{transmitterEmpty, lsr as «lsr-of», clearErrors, lsrRead};
-
-// Whether transmit queue and shift register are both empty.
-pub fn transmitter_empty(s: State) -> bool
-    ensures { λ r. ⌜ r ≡ transmitterEmpty s ⌝ }
-{
-    flag::both(s.tx.count == 0, s.frame.left == 0)
-}
+ghost use Rattle.device.specs.Lsr.{lsr as «lsr-of», clearErrors, lsrRead};
 
 // The register, its lower and its upper four bits.
 pub fn value(s: State) -> u8
     ensures { λ r. ⌜ r ≡ «lsr-of» s ⌝ }
 {
     let e = rbr::oldest(s.rx);
+    let idle = flag::both(s.tx.count == 0, s.frame.left == 0);
     let error = flag::both(s.fifo.enabled == 1, queue::entries::any_error(s.rx));
     let low = flag::nibble(0 < s.rx.count, s.latches.overrun == 1, e.pe == 1, e.fe == 1);
-    let high = flag::nibble(e.bi == 1, s.tx.count == 0, transmitter_empty(s), error);
+    let high = flag::nibble(e.bi == 1, s.tx.count == 0, idle, error);
     low + 16 * high
 }
 

@@ -1,20 +1,21 @@
 // MSR, modem status register.
+use device::Latches;
 use device::State;
 use device::modem;
 ghost use mathlib.Core.Path.{_≡_};
 ghost use mathlib.Core.Bool.{false};
 ghost use Prim.Native.Nat.{_≤_};
-ghost use Rattle.device.specs.Msr.{withLevels, msrRead};
+ghost use Rattle.device.specs.State.{withChanges};
+ghost use Rattle.device.specs.Modem.{changesAfter};
+ghost use Rattle.device.specs.Msr.{msrRead};
 
-// The state t that follows s, with the changes of the effective levels between the two.
-pub fn with_levels(s: State, t: State) -> State
-    ensures { λ r. ⌜ r ≡ withLevels s t ⌝ }
+// The latches after the effective levels go from one to the other.
+pub fn latches_after(l: Latches, from: u8, to: u8) -> Latches
+    ensures { λ r. ⌜ r ≡ withChanges l (changesAfter (l .changes) «from» to) ⌝ }
 {
-    let was = modem::effective_levels(s.registers, s.inputs);
-    let is = modem::effective_levels(t.registers, t.inputs);
-    let changes = modem::changes_after(t.latches.changes, was, is);
-    let mut next = t;
-    next.latches.changes = changes;
+    let changes = modem::changes_after(l.changes, from, to);
+    let mut next = l;
+    next.changes = changes;
     next
 }
 

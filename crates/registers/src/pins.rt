@@ -6,12 +6,12 @@ use device::State;
 use device::modem;
 use sheet::bits;
 ghost use mathlib.Core.Path.{_≡_};
-ghost use mathlib.Core.Bool.{cond};
+ghost use mathlib.Core.Bool.{cond, not, _&&_};
 ghost use Prim.Native.Nat.{_≤_};
-ghost use Rattle.flag.specs.Flag.{bit};
+ghost use Rattle.flag.specs.Flag.{on, bit, bitOf};
 ghost use Rattle.frame.specs.Format.{frameLength};
 ghost use Rattle.device.specs.Transmitter.{line};
-ghost use Rattle.device.specs.Pins.{intrpt as «intrpt-of», outputs as «outputs-of»};
+ghost use Rattle.device.specs.Pins.{outputs as «outputs-of»};
 
 // SOUT: outside loopback LCR6 makes it low; else it is high in loopback, the transmitter's line
 // outside.
@@ -28,14 +28,23 @@ fn sout(loopback: bool, lcr: u8, x: Frame) -> u8
     frame::line_level(x.left, x.byte, x.format)
 }
 
-// INTRPT is high exactly when the code is not 01.
-fn intrpt(s: State) -> u8
-    ensures { λ r. ⌜ r ≡ «intrpt-of» s ⌝ }
+// The pins outside loopback: RTS, DTR, OUT1 and OUT2 are bits of MCR, RTS without hold.
+fn outside(mcr: u8, hold: u8, sout: u8, intrpt: u8) -> Outputs
+    ensures { λ r. ⌜ r ≡ record { sout = sout; rts = bitOf (bit 1 mcr && not (on hold)); dtr = bitOf (bit 0 mcr); out1 = bitOf (bit 2 mcr); out2 = bitOf (bit 3 mcr); intrpt = intrpt } ⌝ }
 {
-    flag::bit(iir::interrupt_code(s) != bits::IIR_NO_INT)
+    let rts = flag::both(flag::has(mcr, bits::MCR_RTS), hold != 1);
+    Outputs {
+        sout,
+        rts: flag::bit(rts),
+        dtr: flag::bit(flag::has(mcr, bits::MCR_DTR)),
+        out1: flag::bit(flag::has(mcr, bits::MCR_OUT1)),
+        out2: flag::bit(flag::has(mcr, bits::MCR_OUT2)),
+        intrpt,
+    }
 }
 
-// The levels of the output pins; in loopback no modem output is asserted.
+// The levels of the output pins; in loopback no modem output is asserted. INTRPT is high exactly when
+// the code is not 01.
 pub fn outputs(s: State) -> Outputs
     requires { ⌜ s .frame .left ≤ frameLength (s .frame .format) ⌝ }
     ensures { λ r. ⌜ r ≡ «outputs-of» s ⌝ }
@@ -43,25 +52,16 @@ pub fn outputs(s: State) -> Outputs
     let r = s.registers;
     let loopback = modem::loopback(r);
     let sout = sout(loopback, r.lcr, s.frame);
-    let intrpt = intrpt(s);
-    if loopback {
-        return Outputs {
-            sout,
-            rts: 0,
-            dtr: 0,
-            out1: 0,
-            out2: 0,
-            intrpt,
-        };
+    let intrpt = flag::bit(iir::interrupt_code(s) != bits::IIR_NO_INT);
+    if !loopback {
+        return outside(r.mcr, s.latches.hold, sout, intrpt);
     }
-    let mcr = r.mcr;
-    let rts = flag::both(flag::has(mcr, bits::MCR_RTS), s.latches.hold != 1);
     Outputs {
         sout,
-        rts: flag::bit(rts),
-        dtr: flag::bit(flag::has(mcr, bits::MCR_DTR)),
-        out1: flag::bit(flag::has(mcr, bits::MCR_OUT1)),
-        out2: flag::bit(flag::has(mcr, bits::MCR_OUT2)),
+        rts: 0,
+        dtr: 0,
+        out1: 0,
+        out2: 0,
         intrpt,
     }
 }

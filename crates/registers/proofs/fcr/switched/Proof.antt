@@ -6,7 +6,7 @@ use Rattle.registers.proofs.fcr.switched.Tie as tie
 
 returns : tie.Need-returns
 unfolding switched
-returns c = cc
+returns c = rw (c .either .ensures, c .before .differ2 .ensures, c .before .before .before .before .differ .ensures)
 
 pub switched-spec : {M : Type 1} → statement M
 switched-spec = tie.close (tie.spec (λ c κs. search needs) (λ c κs. search needs) (λ c κs. search needs) returns)

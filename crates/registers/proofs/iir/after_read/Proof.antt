@@ -6,7 +6,6 @@ use borrow.Author.Needs.{needs}
 use Rattle.registers.proofs.iir.after_read.Statement.{statement}
 use Rattle.registers.proofs.iir.after_read.Tie as tie
 use Rattle.registers.proofs.iir.interrupt_code.Reads as interrupt-code-reads
-use Rattle.registers.proofs.thr.with_empty.Reads as with-empty-reads
 
 with-empty-requires : tie.Need-with-empty-requires
 with-empty-requires c κs = search needs

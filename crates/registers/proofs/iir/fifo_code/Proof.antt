@@ -1,6 +1,7 @@
 -- One return for each setting.
 use Rattle.device.specs.Iir.{fifoCode}
 use native.Mathlib.Omega.{arith}
+use borrow.Author.Needs.{needs}
 use borrow.Author.Tests.{eq-eqb, ne-eqb}
 use Rattle.registers.proofs.iir.fifo_code.Statement.{statement}
 use Rattle.registers.proofs.iir.fifo_code.Tie as tie
@@ -18,4 +19,4 @@ unfolding fifoCode
 returns-3 c = (simp (eq-eqb _ _ (c .before .before .if1 .left), ne-eqb _ _ (c .if2 .left)), omega arith)
 
 pub fifo-code-spec : {M : Type 1} → statement M
-fifo-code-spec = tie.close (tie.spec returns returns-2 returns-3)
+fifo-code-spec = tie.close (tie.spec returns (λ c. search needs) returns-2 returns-3)

@@ -7,7 +7,7 @@ use Rattle.registers.proofs.thr.write.Tie as tie
 returns : tie.Need-returns
 unfolding thrWrite
 returns c =
-    simp (c .with-empty .ensures, c .before .before .put .ensures, c .before .before .before .capacity .ensures .0)
+    simp (c .with-empty .ensures, c .before .put .ensures, c .before .before .capacity .ensures .0)
 
 pub write-spec : {M : Type 1} → statement M
 write-spec = tie.close (tie.spec (λ c κs. search needs) (λ c κs. search needs) (λ c κs. search needs) returns)
