@@ -1,0 +1,34 @@
+-- By the kind.
+use mathlib.Core.Path.{sym, _∙_}
+use Prim.Native.Nat.{_-_}
+use native.Mathlib.Omega.{arith}
+use borrow.Author.Tests.{eq-eqb}
+use borrow.Author.Needs.{needs}
+use Rattle.step.proofs.recorded.way.Statement.{statement}
+use Rattle.step.proofs.recorded.way.Tie as tie
+use Rattle.recorder.proofs.record.kind.Reads as kind-reads
+use Rattle.step.proofs.recorded.way_of_read.Reads as way-of-read-reads
+use Rattle.step.proofs.recorded.way_of_write.Reads as way-of-write-reads
+
+kind-requires : tie.Need-kind-requires
+kind-requires c κs = search needs
+
+way-of-read-requires : tie.Need-way-of-read-requires
+way-of-read-requires c κs = (c .before .before .pre, eq-eqb _ _ (sym (c .before .kind .ensures) ∙ c .if1 .taken))
+
+returns : tie.Need-returns
+returns c = search needs
+
+way-of-write-requires : tie.Need-way-of-write-requires
+way-of-write-requires c κs = search needs
+
+returns-2 : tie.Need-returns-2
+returns-2 c = search needs
+
+returns-3 : tie.Need-returns-3
+returns-3 c = record { nothing = λ h. absurd (omega arith); numbers = λ h. absurd (omega arith); transmit = λ h. absurd (omega arith); read = λ h. absurd (omega arith) }
+
+pub way-spec : {M : Type 1} → statement M
+way-spec =
+    tie.close
+    (tie.spec kind-requires way-of-read-requires returns way-of-write-requires returns-2 returns-3)

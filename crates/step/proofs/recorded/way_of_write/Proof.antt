@@ -1,0 +1,29 @@
+-- By the address: FCR, THR, or another.
+use Rattle.step.proofs.Laws.{transmit-way, numbers-way}
+use mathlib.Core.Path.{sym, _∙_}
+use Prim.Native.Nat.{_-_}
+use native.Mathlib.Omega.{arith}
+use borrow.Author.Needs.{needs}
+use Rattle.step.proofs.recorded.way_of_write.Statement.{statement}
+use Rattle.step.proofs.recorded.way_of_write.Tie as tie
+use Rattle.bus.proofs.reaches_queue.Reads as reaches-queue-reads
+use Rattle.recorder.proofs.record.address.Reads as address-reads
+
+address-requires : tie.Need-address-requires
+address-requires c κs = search needs
+
+returns : tie.Need-returns
+returns c = record { nothing = λ h. absurd (omega arith); numbers = λ h. absurd (omega arith); transmit = λ h. absurd (omega arith); read = λ h. absurd (omega arith) }
+
+reaches-queue-requires : tie.Need-reaches-queue-requires
+reaches-queue-requires c κs = search needs
+
+returns-2 : tie.Need-returns-2
+returns-2 c = transmit-way _ _ (c .before .before .before .before .pre) (λ e. c .before .before .if1 .left (c .before .before .before .address .ensures ∙ e)) (rw (← c .before .before .before .address .ensures) (sym (c .before .reaches-queue .ensures) ∙ c .if2 .taken))
+
+returns-3 : tie.Need-returns-3
+returns-3 c = numbers-way _ _ (c .before .before .before .before .pre) (rw (← c .before .before .before .address .ensures) (sym (c .before .reaches-queue .ensures) ∙ c .if2 .left))
+
+pub way-of-write-spec : {M : Type 1} → statement M
+way-of-write-spec =
+    tie.close (tie.spec address-requires returns reaches-queue-requires returns-2 returns-3)

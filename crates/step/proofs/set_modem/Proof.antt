@@ -1,0 +1,36 @@
+-- The changes of the effective levels, then the rules that end a step.
+use Prim.Native.Nat.{_-_}
+use Rattle.device.specs.Msr.{withLevels}
+use Rattle.device.specs.Autoflow.{settled}
+use borrow.Author.Needs.{needs}
+use Rattle.step.proofs.set_modem.Statement.{statement}
+use Rattle.step.proofs.set_modem.Tie as tie
+use Rattle.device.proofs.autoflow.settle_latches.Reads as settle-latches-reads
+use Rattle.device.proofs.modem.effective_levels.Reads as effective-levels-reads
+use Rattle.registers.proofs.msr.latches_after.Reads as latches-after-reads
+
+effective-levels-requires : tie.Need-effective-levels-requires
+effective-levels-requires c κs = search needs
+
+effective-levels-requires-2 : tie.Need-effective-levels-requires-2
+effective-levels-requires-2 c κs = search needs
+
+latches-after-requires : tie.Need-latches-after-requires
+latches-after-requires c κs = search needs
+
+settle-latches-requires : tie.Need-settle-latches-requires
+settle-latches-requires c κs = search needs
+
+returns : tie.Need-returns
+unfolding settled withLevels
+returns c = rw (c .settle-latches .ensures, c .before .latches-after .ensures, c .before .before .effective-levels2 .ensures, c .before .before .before .effective-levels .ensures)
+
+pub set-modem-spec : {M : Type 1} → statement M
+set-modem-spec =
+    tie.close
+    (tie.spec
+    effective-levels-requires
+    effective-levels-requires-2
+    latches-after-requires
+    settle-latches-requires
+    returns)
