@@ -9,12 +9,13 @@ use native.Mathlib.Omega.{arith}
 use borrow.Author.Tests.{eqb-true, not-false}
 use Rattle.recorder.specs.Record.{byte, good, isRead}
 use Rattle.device.specs.declared.State.{State}
+use Rattle.step.specs.Record.{stepOf}
 use Rattle.invariant.proofs.Settled.{Kept}
 use Rattle.capture.specs.declared.Outcome.{Outcome}
 use Rattle.capture.specs.declared.Replayed.{Replayed}
 use Rattle.capture.specs.File.{agreeing}
-use Rattle.capture.specs.Replay.{differs, refused, stepOf, stepsOf, modelByte, differing, replayFrom, Agrees}
-use Rattle.capture.proofs.Laws.{step-kept}
+use Rattle.capture.specs.Replay.{differs, refused, stepsOf, modelByte, differing, replayFrom, Agrees}
+use Rattle.step.proofs.Laws.{step-kept}
 use Rattle.capture.proofs.Ways.{each-way}
 
 pub not-refused : {number place : ℕ} → Outcome.Refused number place ≡ Outcome.Agreed → ⊥
@@ -31,7 +32,7 @@ saw s w d r =
     eqb-true (byte w) (modelByte s w) (not-false _ n)
 
 -- with the first record in front
-joined : (s : State) (w : ℕ) (ws : List ℕ) (end : State) → differing s w ≡ false → Agrees (stepOf s w) ws end → Agrees s (w ∷ ws) end
+joined : (s : State) (w : ℕ) (ws : List ℕ) (end : State) → differing s w ≡ false → Agrees (stepOf s w .state) ws end → Agrees s (w ∷ ws) end
 joined s w ws end d a = record { reads = reads; steps = a .steps; well = a .well }
   where
     reads : (before : List ℕ) (v : ℕ) (after : List ℕ) → w ∷ ws ≡ before ++ (v ∷ after) → isRead v ≡ true → byte v ≡ modelByte (stepsOf before s) v
@@ -40,7 +41,7 @@ joined s w ws end d a = record { reads = reads; steps = a .steps; well = a .well
         saw s v (ap (differing s) (sym same) ∙ d) r
     reads (b ∷ before) v after e r =
         let same : w ≡ b = ap (λ (l : List ℕ). getD l 0 0) e in
-        a .reads before v after (ap (drop 1) e) r ∙ ap (λ (x : ℕ). modelByte (stepsOf before (stepOf s x)) v) same
+        a .reads before v after (ap (drop 1) e) r ∙ ap (λ (x : ℕ). modelByte (stepsOf before (stepOf s x .state)) v) same
 
 nothing : (before : List ℕ) (v : ℕ) (after : List ℕ) → [] ≡ before ++ (v ∷ after) → ⊥
 nothing [] v after h = absurd (omega (arith, ap (length {A = ℕ}) h))

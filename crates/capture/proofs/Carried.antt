@@ -13,12 +13,13 @@ use Rattle.recorder.specs.Record.{good}
 use Rattle.recorder.specs.File.{wordsOf, known}
 use Rattle.recorder.proofs.Laws.{no-words, left, length-words, length-left, words-append}
 use Rattle.device.specs.declared.State.{State}
+use Rattle.step.specs.Record.{stepOf}
 use Rattle.device.specs.State.{freshOf}
 use Rattle.device.specs.Ranges.{wellFormed}
 use Rattle.capture.specs.declared.Outcome.{Outcome}
 use Rattle.capture.specs.declared.Replayed.{Replayed}
 use Rattle.capture.specs.declared.parts.Progress.{Progress}
-use Rattle.capture.specs.Replay.{agreed, refused, valuesOf, stepOf, differing, replayFrom, replayOf}
+use Rattle.capture.specs.Replay.{agreed, refused, valuesOf, differing, replayFrom, replayOf}
 use Rattle.capture.specs.File.{agreeing, later, onward, ended, recordsOf, headedOf, captureOf, restOf, Ready}
 use Rattle.capture.proofs.Ways.{each-way}
 
@@ -34,7 +35,7 @@ replay-later n =
       end = λ place s. refl;
       bad = λ place s w ws g. simp g;
       other = λ place s w ws g d. simp (g, d);
-      next = λ place s w ws g d e. simp (g, d) (ap (λ (m : ℕ). replayFrom m (stepOf s w) ws) (sym (one n place)) ∙ e);
+      next = λ place s w ws g d e. simp (g, d) (ap (λ (m : ℕ). replayFrom m (stepOf s w .state) ws) (sym (one n place)) ∙ e);
     })
 
 -- No place lies beyond the records.
@@ -62,7 +63,7 @@ replay-append b =
       end = λ place s. ap (λ (m : ℕ). replayFrom m s b) (none place);
       bad = λ place s w ws g. simp g;
       other = λ place s w ws g d. simp (g, d);
-      next = λ place s w ws g d e. simp (g, d) (e ∙ ap (from (replayFrom (suc place) (stepOf s w) ws)) (shift place (length ws)));
+      next = λ place s w ws g d e. simp (g, d) (e ∙ ap (from (replayFrom (suc place) (stepOf s w .state) ws)) (shift place (length ws)));
     })
   where
     none : (m : ℕ) → m ≡ m + 0

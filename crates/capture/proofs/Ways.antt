@@ -1,14 +1,13 @@
--- The ways in which a replay meets a record, and what it keeps in each.
+-- The ways in which a replay meets a record.
 use Prim.Native.Nat.{ℕ, suc}
 use mathlib.Core.Path.{_≡_, refl}
 use mathlib.Core.Bool.{Bool, true, false}
 use mathlib.Core.List.{List, [], _∷_}
 use Rattle.recorder.specs.Record.{good}
 use Rattle.device.specs.declared.State.{State}
-use Rattle.invariant.proofs.Settled.{Kept}
+use Rattle.step.specs.Record.{stepOf}
 use Rattle.capture.specs.declared.Replayed.{Replayed}
-use Rattle.capture.specs.Replay.{stepOf, differing, replayFrom}
-use Rattle.capture.proofs.Laws.{step-kept}
+use Rattle.capture.specs.Replay.{differing, replayFrom}
 
 -- A fact about a replay, from the three ways in which a record is met.
 module _ (P : ℕ → State → List ℕ → Replayed → Type 0) where
@@ -17,7 +16,7 @@ module _ (P : ℕ → State → List ℕ → Replayed → Type 0) where
     pub bad : (place : ℕ) (s : State) (w : ℕ) (ws : List ℕ) → good w ≡ false → P place s (w ∷ ws) (replayFrom place s (w ∷ ws))
     pub other : (place : ℕ) (s : State) (w : ℕ) (ws : List ℕ) → good w ≡ true → differing s w ≡ true → P place s (w ∷ ws) (replayFrom place s (w ∷ ws))
     pub next : (place : ℕ) (s : State) (w : ℕ) (ws : List ℕ) → good w ≡ true → differing s w ≡ false →
-        P (suc place) (stepOf s w) ws (replayFrom (suc place) (stepOf s w) ws) → P place s (w ∷ ws) (replayFrom place s (w ∷ ws))
+        P (suc place) (stepOf s w .state) ws (replayFrom (suc place) (stepOf s w .state) ws) → P place s (w ∷ ws) (replayFrom place s (w ∷ ws))
 
   pub each-way : Ways → (ws : List ℕ) (place : ℕ) (s : State) → P place s ws (replayFrom place s ws)
   each-way a [] place s = a .end place s
@@ -27,16 +26,4 @@ module _ (P : ℕ → State → List ℕ → Replayed → Type 0) where
           (g d : Bool) → good w ≡ g → differing s w ≡ d → P place s (w ∷ ws) (replayFrom place s (w ∷ ws))
       go more false d eg ed = a .bad place s w ws eg
       go more true true eg ed = a .other place s w ws eg ed
-      go more true false eg ed = a .next place s w ws eg ed (more (stepOf s w))
-
--- A replay leaves a well-formed state.
-pub replay-kept : (ws : List ℕ) (place : ℕ) (s : State) → Kept s → Kept (replayFrom place s ws .state)
-unfolding replayFrom
-replay-kept =
-    each-way (λ place s ws r. Kept s → Kept (r .state))
-    (record {
-      end = λ place s k. k;
-      bad = λ place s w ws g k. simp g k;
-      other = λ place s w ws g d k. simp (g, d) k;
-      next = λ place s w ws g d e k. simp (g, d) (e (step-kept s w k));
-    })
+      go more true false eg ed = a .next place s w ws eg ed (more (stepOf s w .state))

@@ -163,6 +163,20 @@ thr-step s w f h =
     ∙ ap (λ (a : ℕ). settled (writeRegister s a (byte w))) (h .1)
     ∙ simp (h .2) (settled-thr s (byte w) f)
 
+-- What a record touches that is a write.
+
+pub numbers-step : (s : State) (w : ℕ) → wellFormed s ≡ true → (kind w ≡ 2) × (reachesQueue s (address w) ≡ false) → Touches byNumbers s (stepOf s w .state)
+numbers-step s w f h =
+    let step = write-step s w f (h .0) in
+    step ∙ numbers-settled s (address w) (byte w) (h .1) ∙ ap (λ (t : State). merged byNumbers s t) (sym step)
+
+pub transmit-step : (s : State) (w : ℕ) → wellFormed s ≡ true → (kind w ≡ 2) × (address w ≡ 0) × (divisorAccess (s .registers) ≡ false) →
+    stepOf s w .state ≡ withLatches (withTx s (stepOf s w .state .tx)) (stepOf s w .state .latches)
+unfolding thrWrite
+transmit-step s w f h =
+    let step = thr-step s w f h in
+    step ∙ ap (λ (t : State). withLatches (withTx s (t .tx)) (t .latches)) (sym step)
+
 -- A record leaves a well-formed state.
 
 either : (b : Bool) (x y : Stepped) → Kept (x .state) → Kept (y .state) → Kept (cond b x y .state)
