@@ -2,13 +2,12 @@
 use Prim.Native.Nat.{ℕ, zero, suc, _-_, _≤_, _<_}
 use native.Mathlib.Omega.{arith}
 use mathlib.Core.Path.{_≡_, refl, sym, ap, _∙_}
-use mathlib.Core.Bool.{Bool, true, false, cond, not, _||_, true≢false}
+use mathlib.Core.Bool.{Bool, true, false, cond, not, _&&_, _||_}
 use mathlib.Core.List.{List}
 use lib.Dec.{eqb}
 use lib.ListN.{length, getD, drop}
 use lib.Seq.{length-take-le}
-use borrow.Author.Tests.{eq-eqb}
-use Rattle.flag.specs.Flag.{on}
+use borrow.Author.Tests.{eqb-false}
 use Rattle.flag.proofs.Laws.{cond-map, cond-same}
 use Rattle.frame.specs.Format.{formatOf, frameLength}
 use Rattle.frame.specs.Transmitter.{Transmitter, withFrame as atFrame, pulse, tick, ticks}
@@ -16,13 +15,14 @@ use Rattle.queue.specs.declared.ByteQueue.{ByteQueue}
 use Rattle.queue.specs.Queue.{contents, takeByte}
 use Rattle.queue.proofs.Contents.{take-oldest, take-contents}
 use Rattle.device.specs.declared.Answer.{Answer}
+use Rattle.device.specs.declared.Frame.{Frame}
 use Rattle.device.specs.declared.State.{State}
-use Rattle.device.specs.State.{withFrame, noFrame}
+use Rattle.device.specs.State.{withFrame, noFrame, withK}
 use Rattle.device.specs.Autoflow.{held, settled}
-use Rattle.device.specs.Transmitter.{loaded, transmitted}
+use Rattle.device.specs.Transmitter.{loaded, ready, shiftedOut, transmitted}
 use Rattle.device.specs.Receiver.{reception, enters, entered, accepted, received}
-use Rattle.device.specs.Idle.{idled}
-use Rattle.device.specs.Tick.{pulsed, withK, ticked}
+use Rattle.device.specs.Idle.{counts, idled}
+use Rattle.device.specs.Tick.{pulsed, ticked}
 use Rattle.device.specs.Calls.{done, tickOf, ticksOf}
 use Rattle.invariant.proofs.Good.{capacity-bounds, good-of}
 use Rattle.invariant.proofs.Settled.{Kept}
@@ -67,19 +67,28 @@ loaded-transmitter s w n =
     cond-same transmitterOf (eqb (s .tx .count) 1) _ _ _ (rw (oldest, rest)) (rw (oldest, rest))
 
 transmitted-transmitter : (s : State) → Within (s .tx) → transmitterOf (transmitted s) ≡ pulse (transmitterOf s)
-unfolding transmitted pulse
+unfolding transmitted shiftedOut ready pulse
 transmitted-transmitter s w =
-    let held? = held (s .registers) (s .fifo) (s .inputs) in
-    let count : length (contents (s .tx .count) (s .tx .bytes)) ≡ s .tx .count = count-queued (s .tx) w in
-    rw count
-    (cond-map transmitterOf (eqb (s .frame .left - 1) 0) _ _ _ _
-    (go (eqb (s .tx .count) 0 || held?) refl)
-    refl)
+    rw (count-queued (s .tx) w) (go (eqb (s .frame .left - 1) 0) refl (eqb (s .tx .count) 0) refl (held (s .registers) (s .fifo) (s .inputs)))
   where
-    go : (b : Bool) → (eqb (s .tx .count) 0 || held (s .registers) (s .fifo) (s .inputs)) ≡ b
-        → transmitterOf (cond b (withFrame s noFrame) (loaded s)) ≡ cond b (atFrame (transmitterOf s) 0 0 0 (contents (s .tx .count) (s .tx .bytes))) (atFrame (transmitterOf s) (frameLength (formatOf (s .registers .lcr))) (getD (contents (s .tx .count) (s .tx .bytes)) 0 0) (formatOf (s .registers .lcr)) (drop 1 (contents (s .tx .count) (s .tx .bytes))))
-    go true e = refl
-    go false e = loaded-transmitter s w (λ z. absurd (true≢false (sym (ap (λ (b : Bool). b || held (s .registers) (s .fifo) (s .inputs)) (eq-eqb (s .tx .count) 0 z)) ∙ e)))
+    lower : Frame
+    lower = record { left = s .frame .left - 1; byte = s .frame .byte; format = s .frame .format }
+
+    queued : List ℕ
+    queued = contents (s .tx .count) (s .tx .bytes)
+
+    next : ℕ
+    next = formatOf (s .registers .lcr)
+
+    go : (z : Bool) → eqb (s .frame .left - 1) 0 ≡ z → (n : Bool) → eqb (s .tx .count) 0 ≡ n → (h : Bool)
+        → transmitterOf (cond (eqb (cond z noFrame lower .left) 0 && (not n && not h)) (loaded s) (withFrame s (cond z noFrame lower)))
+        ≡ cond z
+        (cond (n || h) (atFrame (transmitterOf s) 0 0 0 queued) (atFrame (transmitterOf s) (frameLength next) (getD queued 0 0) next (drop 1 queued)))
+        (atFrame (transmitterOf s) (s .frame .left - 1) (s .frame .byte) (s .frame .format) queued)
+    go true p true q h = refl
+    go true p false q true = refl
+    go true p false q false = loaded-transmitter s w (eqb-false (s .tx .count) 0 q)
+    go false p n q h = simp p
 
 -- the other parts do not touch it
 received-transmitter : (s : State) → transmitterOf (received s) ≡ transmitterOf s
@@ -88,7 +97,7 @@ received-transmitter s = cond-same transmitterOf (reception s .ended) _ _ _ refl
 
 idled-transmitter : (new : Bool) (s : State) → transmitterOf (idled new s) ≡ transmitterOf s
 unfolding idled
-idled-transmitter new s = cond-same transmitterOf (not (on (s .fifo .enabled)) || eqb (s .rx .count) 0) _ _ _ refl refl
+idled-transmitter new s = cond-same transmitterOf (counts (s .fifo) (s .rx .count)) _ _ _ refl refl
 
 pulsed-transmitter : (s : State) → Within (s .tx) → transmitterOf (pulsed s) ≡ pulse (transmitterOf s)
 unfolding pulsed

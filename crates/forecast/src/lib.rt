@@ -1,85 +1,75 @@
-// The forecast: the pulses and ticks until the transmitter is empty, and the level of its line
-// after any number of ticks, by division and remainder.
-use device::Frame;
-use queue::ByteQueue;
+// The forecast: the ticks until the transmitter is empty, the level of its line after any number of
+// ticks, and the ticks that run uses. Each call takes a state that is known to be well formed.
+pub mod formula;
+
+use device::State;
+use device::autoflow;
+use sheet::answer;
 ghost use mathlib.Core.Path.{_≡_};
-ghost use Prim.Native.Nat.{_≤_, _<_, _/_, _%_};
-ghost use Rattle.frame.specs.Format.{frameLength};
-ghost use lib.ListN.{getD};
-ghost use Rattle.frame.specs.Frame.{frameLevels};
-ghost use Rattle.frame.specs.Forecast.{pulsesLeft, ticksLeft, placeAfter, spelled, levelAt};
-ghost use Rattle.queue.specs.Queue.{contents};
+ghost use mathlib.Core.Bool.{true};
+ghost use Rattle.device.specs.Ranges.{wellFormed};
+ghost use Rattle.device.specs.Transmitter.{line};
+ghost use Rattle.device.specs.Calls.{ticksOf};
+ghost use Rattle.device.specs.Forecast.{forecastNumber, pulsesToCome, ticksToCome, levelToCome, usedOf};
 
-// p, the pulses to come, with L pulses left of the frame now sent and `count` bytes queued, whose
-// frames have `length` pulses.
-pub fn pulses_left(left: u32, count: u32, length: u32) -> u32
-    requires { ⌜ (left ≤ 192) × (count ≤ 64) × (length ≤ 192) ⌝ }
-    ensures { λ r. ⌜ r ≡ pulsesLeft left count length ⌝ }
+// The number that the forecast answers: 4 where work is left and there is no clock, 5 where bytes
+// are queued and held back, else 0.
+pub fn number(s: State) -> u8
+    requires { ⌜ wellFormed s ≡ true ⌝ }
+    ensures { λ r. ⌜ r ≡ forecastNumber s ⌝ }
 {
-    if 0 < left {
-        return left + count * length;
+    let count = s.tx.count;
+    let work = flag::either(0 < s.frame.left, 0 < count);
+    if flag::both(work, s.baud.divisor == 0) {
+        return answer::NO_CLOCK;
     }
-    if 0 < count {
-        return 1 + count * length;
+    let r = s.registers;
+    let f = s.fifo;
+    let i = s.inputs;
+    if flag::both(0 < count, autoflow::held(r, f, i)) {
+        return answer::HELD_BACK;
     }
-    0
+    answer::DONE
 }
 
-// T, the ticks to come, with k ticks to the next pulse and p pulses to come.
-pub fn ticks_left(k: u32, divisor: u32, p: u32) -> u32
-    requires { ⌜ (k ≤ divisor) × (divisor ≤ 65535) × (p ≤ 12480) ⌝ }
-    ensures { λ r. ⌜ r ≡ ticksLeft k divisor p ⌝ }
+// p, the pulses until queue and shift register are both empty.
+pub fn pulses_to_come(s: State) -> u32
+    requires { ⌜ forecastNumber s ≡ 0 ⌝ }
+    ensures { λ r. ⌜ r ≡ pulsesToCome s ⌝ }
 {
-    if p == 0 {
-        return 0;
-    }
-    k + (p - 1) * divisor
+    let length = frame::frame_length(s.registers.lcr % 64);
+    formula::pulses_left(s.frame.left, s.tx.count, length)
 }
 
-// q, the place in the string of p levels after t ticks.
-pub fn place_after(k: u32, divisor: u32, p: u32, t: u32) -> u32
-    requires { ⌜ ((p ≡ 0 → ⊥) → 1 ≤ k) × ((p ≡ 0 → ⊥) → 1 ≤ divisor) ⌝ }
-    ensures { λ r. ⌜ r ≡ placeAfter k divisor p t ⌝ }
+// T, the ticks until then.
+pub fn ticks_to_come(s: State) -> u32
+    requires { ⌜ forecastNumber s ≡ 0 ⌝ }
+    ensures { λ r. ⌜ r ≡ ticksToCome s ⌝ }
 {
-    if p == 0 {
-        return 0;
-    }
-    if t < k {
-        return 0;
-    }
-    1 + (t - k) / divisor
+    formula::ticks_left(s.baud.k, s.baud.divisor, pulses_to_come(s))
 }
 
-// The level at a place behind the current frame: that of the queued byte's frame it falls into.
-fn queued_level(q: ByteQueue, format: u8, place: u32) -> u8
-    requires { ⌜ place / frameLength format < 64 ⌝ }
-    ensures { λ r. ⌜ r ≡ getD (frameLevels (getD (q .bytes) (place / frameLength format) 0) format) (place % frameLength format) 1 ⌝ }
+// The level of the transmitter's line after t ticks.
+pub fn level_after(s: State, t: u32) -> u8
+    requires { ⌜ forecastNumber s ≡ 0 ⌝ }
+    ensures foretold { λ r. ⌜ r ≡ levelToCome s t ⌝ }
+    ensures ticked { λ r. ⌜ r ≡ line (ticksOf t s .frame) ⌝ }
 {
-    let length = frame::frame_length(format);
-    let at = (place / length) as usize;
-    let byte = q.bytes[at];
-    frame::frame_level(byte, format, place % length)
+    let x = s.frame;
+    let tx = s.tx;
+    let p = pulses_to_come(s);
+    let q = formula::place_after(s.baud.k, s.baud.divisor, p, t);
+    formula::level_at(x, tx, s.registers.lcr % 64, p, q)
 }
 
-// The level at place q of what the rest of the frame and the queued bytes spell, p levels long;
-// high from place p on.
-pub fn level_at(x: Frame, tx: ByteQueue, format: u8, p: u32, q: u32) -> u8
-    requires { ⌜ (x .left ≤ frameLength (x .format)) × (tx .count ≤ 64) × (p ≡ pulsesLeft (x .left) (tx .count) (frameLength format)) ⌝ }
-    ensures { λ r. ⌜ r ≡ levelAt p (spelled (x .left) (x .byte) (x .format) format (contents (tx .count) (tx .bytes))) q ⌝ }
+// The ticks that run uses of at most n.
+pub fn used(s: State, n: u32) -> u32
+    requires { ⌜ wellFormed s ≡ true ⌝ }
+    ensures { λ r. ⌜ r ≡ usedOf s n ⌝ }
 {
-    if p <= q {
-        return 1;
+    if number(s) != answer::DONE {
+        return n;
     }
-    let left = x.left;
-    if q < left {
-        let length = frame::frame_length(x.format);
-        return frame::frame_level(x.byte, x.format, length - left + q);
-    }
-    if left == 0 {
-        if q == 0 {
-            return 1;
-        }
-        return queued_level(tx, format, q - 1);
-    }
-    queued_level(tx, format, q - left)
+    let ticks = ticks_to_come(s);
+    if n < ticks { n } else { ticks }
 }

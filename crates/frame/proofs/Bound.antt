@@ -23,8 +23,3 @@ ticks-bound k d p hk hd hp =
     let less : p - 1 ≤ 12479 = omega arith in
     let most : (p - 1) * d ≤ 12479 * 65535 = mul-le-mul less hd in
     by-test (λ (t : ℕ). t ≤ 817876800) (eqb p 0) _ _ (λ _. omega arith) (λ _. omega arith)
-
--- T of a state in range
-pub forecast-bound : (k d l n f : ℕ) → k ≤ d → d ≤ 65535 → l ≤ 192 → n ≤ 64
-    → ticksLeft k d (pulsesLeft l n (frameLength f)) ≤ 817876800
-forecast-bound k d l n f hk hd hl hn = ticks-bound k d _ hk hd (pulses-bound l n f hl hn)

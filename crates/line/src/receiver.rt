@@ -206,7 +206,8 @@ fn is_full(s: State) -> bool
 pub fn enters(s: State, ended: bool) -> bool
     ensures { λ r. ⌜ r ≡ (ended && not (isFull (capacity (s .fifo)) (s .rx .count))) ⌝ }
 {
-    flag::both(ended, !is_full(s))
+    let full = is_full(s);
+    flag::both(ended, !full)
 }
 
 // OE after a put.

@@ -5,8 +5,8 @@ use Prim.Native.Nat.{_*_, _≤_}
 use lib.ListN.{length}
 use native.Mathlib.Omega.{arith}
 use borrow.Author.Tests.{lt-ltb, le-ltb}
-use Rattle.forecast.proofs.pulses_left.Statement.{statement}
-use Rattle.forecast.proofs.pulses_left.Tie as tie
+use Rattle.forecast.proofs.formula.pulses_left.Statement.{statement}
+use Rattle.forecast.proofs.formula.pulses_left.Tie as tie
 
 mul-result : tie.Need-mul-result
 mul-result c =

@@ -10,8 +10,8 @@ use lib.ListN.{length}
 use native.Mathlib.Omega.{arith}
 use borrow.Author.Tests.{lt-ltb, le-ltb}
 use borrow.Author.Needs.{needs}
-use Rattle.forecast.proofs.level_at.Statement.{statement}
-use Rattle.forecast.proofs.level_at.Tie as tie
+use Rattle.forecast.proofs.formula.level_at.Statement.{statement}
+use Rattle.forecast.proofs.formula.level_at.Tie as tie
 
 returns : tie.Need-returns
 unfolding levelAt

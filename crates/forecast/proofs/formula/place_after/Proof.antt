@@ -4,8 +4,8 @@ use native.Mathlib.Nat.{div-le-self}
 use Prim.Native.Nat.{_-_}
 use native.Mathlib.Omega.{arith}
 use borrow.Author.Tests.{lt-ltb, le-ltb, eq-eqb, ne-eqb}
-use Rattle.forecast.proofs.place_after.Statement.{statement}
-use Rattle.forecast.proofs.place_after.Tie as tie
+use Rattle.forecast.proofs.formula.place_after.Statement.{statement}
+use Rattle.forecast.proofs.formula.place_after.Tie as tie
 
 returns : tie.Need-returns
 unfolding placeAfter

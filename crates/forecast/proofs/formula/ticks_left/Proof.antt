@@ -5,8 +5,8 @@ use Prim.Native.Nat.{_-_, _*_, _≤_}
 use native.Mathlib.Omega.{arith}
 use borrow.Author.Tests.{eq-eqb, ne-eqb}
 use borrow.Author.Needs.{needs}
-use Rattle.forecast.proofs.ticks_left.Statement.{statement}
-use Rattle.forecast.proofs.ticks_left.Tie as tie
+use Rattle.forecast.proofs.formula.ticks_left.Statement.{statement}
+use Rattle.forecast.proofs.formula.ticks_left.Tie as tie
 
 returns : tie.Need-returns
 unfolding ticksLeft

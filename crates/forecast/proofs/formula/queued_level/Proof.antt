@@ -2,8 +2,8 @@
 use Prim.Native.Nat.{_/_, _<_}
 use native.Mathlib.Omega.{arith}
 use borrow.Author.Needs.{needs}
-use Rattle.forecast.proofs.queued_level.Statement.{statement}
-use Rattle.forecast.proofs.queued_level.Tie as tie
+use Rattle.forecast.proofs.formula.queued_level.Statement.{statement}
+use Rattle.forecast.proofs.formula.queued_level.Tie as tie
 
 frame-length-requires : tie.Need-frame-length-requires
 frame-length-requires c κs = search needs
