@@ -9,11 +9,7 @@ use device::Looked;
 use device::Outputs;
 use device::Ran;
 use device::State;
-use device::autoflow;
-use device::with_inputs;
-use line::tick;
 use ranges::well_formed;
-use registers::msr;
 use registers::pins::outputs;
 use sheet::answer;
 use sheet::limits;
@@ -21,10 +17,10 @@ ghost use mathlib.Core.Path.{_≡_};
 ghost use Prim.Native.Nat.{ℕ, _≤_};
 ghost use Rattle.frame.specs.Format.{frameLength};
 ghost use Rattle.device.specs.State.{freshOf};
-ghost use Rattle.device.specs.Pins.{noOutputs};
-ghost use Rattle.device.specs.Calls.{done as «done-of», refused as «refused-of», resetOf, readOf, writeOf, sinOf, modemOf, tickOf, ticksOf, ticksAnswer, pinsOf};
+ghost use Rattle.device.specs.Pins.{outputs as «outputs-of», noOutputs};
+ghost use Rattle.device.specs.Calls.{refused as «refused-of», resetOf, readOf, writeOf, sinOf, modemOf, tickOf, ticksOf, ticksAnswer, pinsOf};
 ghost use Rattle.device.specs.Transmitter.{line};
-ghost use Rattle.device.specs.Forecast.{forecastNumber, pulsesToCome, ticksToCome, forecastOf, levelOf, usedOf, runOf, Foretold, StopsInTime};
+ghost use Rattle.device.specs.Forecast.{forecastNumber, forecastOf, levelOf, runOf, Foretold, StopsInTime};
 
 // Every output 0, as a refusal answers.
 fn no_outputs() -> Outputs

@@ -10,9 +10,6 @@ use borrow.Author.Needs.{needs}
 use Rattle.uart.proofs.level.Statement.{statement}
 use Rattle.uart.proofs.level.Tie as tie
 
-kept : (c : tie.Start) → forecastNumber (c .args .s) ≡ 0 → Kept (c .args .s)
-kept c e = record { well = forecast-well (c .args .s) e; places = record { bytes-long = search needs; entries-long = search (length-mapped, needs) } }
-
 forecast-number-requires : tie.Need-forecast-number-requires
 forecast-number-requires c κs = search needs
 
@@ -24,27 +21,14 @@ returns c =
     let some : forecastNumber s ≡ 0 → ⊥ = λ e. c .if1 .taken (same ∙ e) in
     (rw same (simp (ne-eqb _ _ some)), λ e. absurd (c .if1 .taken e))
 
-pulses-to-come-requires : tie.Need-pulses-to-come-requires
-pulses-to-come-requires c κs = sym (c .before .before .before .forecast-number .ensures) ∙ c .before .before .if1 .left
-
-place-after-requires : tie.Need-place-after-requires
-place-after-requires c κs =
-    let clock = forecast-clocked (c .before .before .before .before .before .args .s) (sym (c .before .before .before .before .forecast-number .ensures) ∙ c .before .before .before .if1 .left) in
-    let same = c .pulses-to-come .ensures in
-    (λ n. clock (λ e. n (same ∙ e)) .0, λ n. clock (λ e. n (same ∙ e)) .1)
-
-level-at-requires : tie.Need-level-at-requires
-level-at-requires c κs =
-    let r = forecast-ranged (c .before .before .before .before .before .before .before .args .s) (sym (c .before .before .before .before .before .before .forecast-number .ensures) ∙ c .before .before .before .before .before .if1 .left) in
-    (r .sent, r .count, c .before .before .pulses-to-come .ensures)
+level-after-requires : tie.Need-level-after-requires
+level-after-requires c κs = sym (c .before .forecast-number .ensures) ∙ c .if1 .left
 
 returns-2 : tie.Need-returns-2
 unfolding levelOf
 returns-2 c =
-    let a = c .before .before .before .before .before .before .before .before .args in
-    let none = sym (c .before .before .before .before .before .before .before .forecast-number .ensures) ∙ c .before .before .before .before .before .before .if1 .left in
-    let same : c .level-at .result ≡ levelToCome (a .s) (a .t) = rw (c .level-at .ensures, c .before .before .place-after .ensures, c .before .before .before .pulses-to-come .ensures) in
-    (rw same (simp (eq-eqb _ _ none)), λ _. same ∙ sym (foretold (a .s) (kept (c .before .before .before .before .before .before .before .before) none) none (a .t) .level))
+    let none = sym (c .before .before .forecast-number .ensures) ∙ c .before .if1 .left in
+    (rw (c .level-after .ensures .0) (simp (eq-eqb _ _ none)), λ _. c .level-after .ensures .1)
 
 pub level-spec : {M : Type 1} → statement M
 level-spec =
@@ -52,7 +36,5 @@ level-spec =
     (tie.spec
     forecast-number-requires
     returns
-    pulses-to-come-requires
-    place-after-requires
-    level-at-requires
+    level-after-requires
     returns-2)

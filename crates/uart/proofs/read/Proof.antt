@@ -1,5 +1,6 @@
 -- The rows of the table in their order: 1, 2, or done.
 use Rattle.device.specs.Calls.{done, readOf}
+use Rattle.device.specs.Autoflow.{settled}
 use Rattle.invariant.proofs.Good.{Places, good-of}
 use Rattle.invariant.proofs.Settled.{sound-of}
 use Rattle.invariant.proofs.Registers.{read-sound}
@@ -30,20 +31,19 @@ returns-2 : tie.Need-returns-2
 unfolding readOf
 returns-2 c = rw (c .refused2 .ensures) (simp (sym (c .before .before .before .well-formed .ensures) ∙ not-false _ (c .before .before .if1 .left), lt-leb _ _ (c .before .if2 .taken)))
 
-read-register-requires : tie.Need-read-register-requires
-read-register-requires c κs =
-    let g = good-of (c .before .before .before .args .s) (sym (c .before .before .well-formed .ensures) ∙ not-false _ (c .before .if1 .left)) in
-    record { divisor = g .registers .divisor-most; changes = g .latches .changes-most; modem = g .settings .modem-most }
+read-requires : tie.Need-read-requires
+read-requires c κs = sym (c .before .before .well-formed .ensures) ∙ not-false _ (c .before .if1 .left)
 
-done-requires : tie.Need-done-requires
-done-requires c κs =
+answered-requires : tie.Need-answered-requires
+unfolding settled
+answered-requires c κs =
     let a = c .before .before .before .before .before in
     let w = sound-of (a .args .s) (places a) (good-of (a .args .s) (sym (c .before .before .before .before .well-formed .ensures) ∙ not-false _ (c .before .before .before .if1 .left))) in
-    rw (c .before .read-register .ensures) (read-sound (a .args .s) (a .args .address) w .transmit .frame .left-most)
+    rw (c .before .read .ensures) (read-sound (a .args .s) (a .args .address) w .transmit .frame .left-most)
 
 returns-3 : tie.Need-returns-3
-unfolding readOf
-returns-3 c = rw (c .done .ensures, c .before .before .read-register .ensures) (simp (sym (c .before .before .before .before .before .well-formed .ensures) ∙ not-false _ (c .before .before .before .before .if1 .left), le-leb _ _ (c .before .before .before .if2 .left)))
+unfolding readOf done
+returns-3 c = rw (c .answered .ensures, c .before .before .read .ensures) (simp (sym (c .before .before .before .before .before .well-formed .ensures) ∙ not-false _ (c .before .before .before .before .if1 .left), le-leb _ _ (c .before .before .before .if2 .left)))
 
 pub read-spec : {M : Type 1} → statement M
 read-spec =
@@ -54,6 +54,6 @@ read-spec =
     returns
     refused-requires-2
     returns-2
-    read-register-requires
-    done-requires
+    read-requires
+    answered-requires
     returns-3)

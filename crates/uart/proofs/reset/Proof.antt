@@ -1,6 +1,7 @@
 -- The two rows of the table: 1, or done.
 use Rattle.device.specs.Calls.{done, resetOf}
-use Rattle.device.specs.State.{resetState}
+use Rattle.device.specs.Autoflow.{settled}
+use Rattle.device.specs.State.{freshOf, resetState}
 use mathlib.Core.Path.{sym, _∙_}
 use native.Mathlib.Omega.{arith}
 use borrow.Author.Tests.{not-true, not-false}
@@ -21,15 +22,15 @@ returns c = rw (c .refused .ensures) (simp (sym (c .before .before .well-formed 
 reset-requires : tie.Need-reset-requires
 reset-requires c κs = search needs
 
-done-requires : tie.Need-done-requires
-unfolding resetState
-done-requires c κs = rw (c .reset .ensures) (omega arith)
+answered-requires : tie.Need-answered-requires
+unfolding settled resetState freshOf
+answered-requires c κs = rw (c .reset .ensures) (omega arith)
 
 returns-2 : tie.Need-returns-2
-unfolding resetOf
-returns-2 c = rw (c .done .ensures, c .before .reset .ensures) (simp (sym (c .before .before .before .well-formed .ensures) ∙ not-false _ (c .before .before .if1 .left)))
+unfolding resetOf done
+returns-2 c = rw (c .answered .ensures, c .before .reset .ensures) (simp (sym (c .before .before .before .well-formed .ensures) ∙ not-false _ (c .before .before .if1 .left)))
 
 pub reset-spec : {M : Type 1} → statement M
 reset-spec =
     tie.close
-    (tie.spec well-formed-requires refused-requires returns reset-requires done-requires returns-2)
+    (tie.spec well-formed-requires refused-requires returns reset-requires answered-requires returns-2)

@@ -1,5 +1,6 @@
 -- The rows of the table in their order: 1, 3, or done.
 use Rattle.device.specs.Calls.{done, modemOf}
+use Rattle.device.specs.Autoflow.{settled}
 use Rattle.device.specs.Msr.{withLevels}
 use Rattle.invariant.proofs.Good.{good-of}
 use mathlib.Core.Path.{sym, _∙_}
@@ -25,21 +26,18 @@ returns-2 : tie.Need-returns-2
 unfolding modemOf
 returns-2 c = rw (c .refused2 .ensures) (simp (sym (c .before .before .before .well-formed .ensures) ∙ not-false _ (c .before .before .if1 .left), lt-leb _ _ (c .before .if2 .taken)))
 
-with-inputs-requires : tie.Need-with-inputs-requires
-with-inputs-requires c κs = search needs
+set-modem-requires : tie.Need-set-modem-requires
+set-modem-requires c κs = search needs
 
-with-levels-requires : tie.Need-with-levels-requires
-with-levels-requires c κs = search needs
-
-done-requires : tie.Need-done-requires
-unfolding withLevels
-done-requires c κs =
-    let g = good-of (c .before .before .before .before .before .args .s) (sym (c .before .before .before .before .well-formed .ensures) ∙ not-false _ (c .before .before .before .if1 .left)) in
-    rw (c .with-levels .ensures, c .before .with-inputs .ensures) (g .transmit .frame .left-most)
+answered-requires : tie.Need-answered-requires
+unfolding settled withLevels
+answered-requires c κs =
+    let g = good-of (c .before .before .before .before .args .s) (sym (c .before .before .before .well-formed .ensures) ∙ not-false _ (c .before .before .if1 .left)) in
+    rw (c .set-modem .ensures) (g .transmit .frame .left-most)
 
 returns-3 : tie.Need-returns-3
-unfolding modemOf
-returns-3 c = rw (c .done .ensures, c .before .with-levels .ensures, c .before .before .with-inputs .ensures) (simp (sym (c .before .before .before .before .before .well-formed .ensures) ∙ not-false _ (c .before .before .before .before .if1 .left), le-leb _ _ (c .before .before .before .if2 .left)))
+unfolding modemOf done
+returns-3 c = rw (c .answered .ensures, c .before .set-modem .ensures) (simp (sym (c .before .before .before .before .well-formed .ensures) ∙ not-false _ (c .before .before .before .if1 .left), le-leb _ _ (c .before .before .if2 .left)))
 
 pub set-modem-spec : {M : Type 1} → statement M
 set-modem-spec =
@@ -50,7 +48,6 @@ set-modem-spec =
     returns
     refused-requires-2
     returns-2
-    with-inputs-requires
-    with-levels-requires
-    done-requires
+    set-modem-requires
+    answered-requires
     returns-3)

@@ -1,5 +1,6 @@
 -- The rows of the table in their order: 1, 3, or done.
 use Rattle.device.specs.Calls.{done, sinOf}
+use Rattle.device.specs.Autoflow.{settled}
 use Rattle.invariant.proofs.Good.{good-of}
 use mathlib.Core.Path.{sym, _∙_}
 use borrow.Author.Tests.{le-leb, lt-leb, not-true, not-false}
@@ -24,17 +25,18 @@ returns-2 : tie.Need-returns-2
 unfolding sinOf
 returns-2 c = rw (c .refused2 .ensures) (simp (sym (c .before .before .before .well-formed .ensures) ∙ not-false _ (c .before .before .if1 .left), lt-leb _ _ (c .before .if2 .taken)))
 
-with-inputs-requires : tie.Need-with-inputs-requires
-with-inputs-requires c κs = search needs
+set-sin-requires : tie.Need-set-sin-requires
+set-sin-requires c κs = sym (c .before .before .well-formed .ensures) ∙ not-false _ (c .before .if1 .left)
 
-done-requires : tie.Need-done-requires
-done-requires c κs =
+answered-requires : tie.Need-answered-requires
+unfolding settled
+answered-requires c κs =
     let g = good-of (c .before .before .before .before .args .s) (sym (c .before .before .before .well-formed .ensures) ∙ not-false _ (c .before .before .if1 .left)) in
-    rw (c .with-inputs .ensures) (g .transmit .frame .left-most)
+    rw (c .set-sin .ensures) (g .transmit .frame .left-most)
 
 returns-3 : tie.Need-returns-3
-unfolding sinOf
-returns-3 c = rw (c .done .ensures, c .before .with-inputs .ensures) (simp (sym (c .before .before .before .before .well-formed .ensures) ∙ not-false _ (c .before .before .before .if1 .left), le-leb _ _ (c .before .before .if2 .left)))
+unfolding sinOf done
+returns-3 c = rw (c .answered .ensures, c .before .set-sin .ensures) (simp (sym (c .before .before .before .before .well-formed .ensures) ∙ not-false _ (c .before .before .before .if1 .left), le-leb _ _ (c .before .before .if2 .left)))
 
 pub set-sin-spec : {M : Type 1} → statement M
 set-sin-spec =
@@ -45,6 +47,6 @@ set-sin-spec =
     returns
     refused-requires-2
     returns-2
-    with-inputs-requires
-    done-requires
+    set-sin-requires
+    answered-requires
     returns-3)

@@ -1,5 +1,6 @@
 -- The rows of the table in their order: 1, 2, or done.
 use Rattle.device.specs.Calls.{done, writeOf}
+use Rattle.device.specs.Autoflow.{settled}
 use Rattle.invariant.proofs.Good.{Places, good-of}
 use Rattle.invariant.proofs.Settled.{sound-of}
 use Rattle.invariant.proofs.Registers.{write-sound}
@@ -31,19 +32,20 @@ returns-2 : tie.Need-returns-2
 unfolding writeOf
 returns-2 c = rw (c .refused2 .ensures) (simp (sym (c .before .before .before .well-formed .ensures) ∙ not-false _ (c .before .before .if1 .left), lt-leb _ _ (c .before .if2 .taken)))
 
-write-register-requires : tie.Need-write-register-requires
-write-register-requires c κs = search needs
+write-requires : tie.Need-write-requires
+write-requires c κs = search needs
 
-done-requires : tie.Need-done-requires
-done-requires c κs =
+answered-requires : tie.Need-answered-requires
+unfolding settled
+answered-requires c κs =
     let a = c .before .before .before .before in
     let w = sound-of (a .args .s) (places a) (good-of (a .args .s) (sym (c .before .before .before .well-formed .ensures) ∙ not-false _ (c .before .before .if1 .left))) in
     let byte : a .args .byte ≤ 255 = search needs in
-    rw (c .write-register .ensures) (write-sound (a .args .s) (a .args .address) (a .args .byte) byte w .transmit .frame .left-most)
+    rw (c .write .ensures) (write-sound (a .args .s) (a .args .address) (a .args .byte) byte w .transmit .frame .left-most)
 
 returns-3 : tie.Need-returns-3
-unfolding writeOf
-returns-3 c = rw (c .done .ensures, c .before .write-register .ensures) (simp (sym (c .before .before .before .before .well-formed .ensures) ∙ not-false _ (c .before .before .before .if1 .left), le-leb _ _ (c .before .before .if2 .left)))
+unfolding writeOf done
+returns-3 c = rw (c .answered .ensures, c .before .write .ensures) (simp (sym (c .before .before .before .before .well-formed .ensures) ∙ not-false _ (c .before .before .before .if1 .left), le-leb _ _ (c .before .before .if2 .left)))
 
 pub write-spec : {M : Type 1} → statement M
 write-spec =
@@ -54,6 +56,6 @@ write-spec =
     returns
     refused-requires-2
     returns-2
-    write-register-requires
-    done-requires
+    write-requires
+    answered-requires
     returns-3)
