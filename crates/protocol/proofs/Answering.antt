@@ -7,11 +7,11 @@ use lib.Seq.{take-nil}
 use native.Mathlib.Omega.{arith}
 use Rattle.protocol.specs.declared.command.Command.{Command}
 use Rattle.protocol.specs.declared.session.Session.{Session}
-use Rattle.protocol.specs.Text.{Appended}
+use Rattle.text.specs.Text.{Appended}
 use Rattle.protocol.specs.Command.{commandOf, operandsOf}
 use Rattle.protocol.specs.Session.{saidOf, nextOf, keptOf}
 use Rattle.protocol.specs.Lines.{standing, lineSaid, lineNext}
-use Rattle.protocol.proofs.Texts.{appended-as}
+use Rattle.text.proofs.Texts.{appended-as}
 
 -- the records of a replay, which follow its version
 records-front : (m : ℕ) (l : List ℕ) → take m (drop 1 l) ≡ drop 1 (take (suc m) l)

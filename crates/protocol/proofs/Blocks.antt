@@ -9,7 +9,7 @@ use lib.Dec.{eqb}
 use native.Mathlib.Numerals.{add-one}
 use native.Mathlib.Decide.{decLe}
 use native.Mathlib.Omega.{arith}
-use Rattle.protocol.specs.Text.{before, Appended}
+use Rattle.text.specs.Text.{before, Appended}
 use Rattle.protocol.specs.Lines.{lastSaid, Standing, lineSaid, lineNext, writtenAfter, Answered}
 
 -- a line that ends in d

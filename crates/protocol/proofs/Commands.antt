@@ -1,22 +1,18 @@
 -- The table of commands: the row of a word.
 use Rattle.protocol.specs.declared.command.Command.{Command}
 use Rattle.protocol.specs.declared.command.Call.{Call}
-use Rattle.protocol.specs.declared.decimal.Number.{Number}
+use Rattle.text.specs.declared.decimal.Number.{Number}
 use Prim.Native.Nat.{ℕ, _≤_, _<_}
 use mathlib.Core.Path.{_≡_, refl, sym, ap}
 use mathlib.Core.Bool.{Bool, true, false, cond}
 use mathlib.Core.List.{List, [], _∷_}
 use lib.ListN.{take}
 use borrow.Author.Tests.{le-leb, lt-leb}
-use Rattle.protocol.specs.Text.{text, same}
-use Rattle.protocol.specs.Decimal.{numberOf}
+use Rattle.text.specs.Text.{text, same}
+use Rattle.text.specs.Decimal.{numberOf}
 use Rattle.protocol.specs.Command.{one, allNumbers, areNumbers, table, lookUp}
-use Rattle.protocol.proofs.Texts.{same-equal}
-use Rattle.protocol.proofs.Decimals.{and-false}
-
-pub cond-same : {A : Type 0} (t : Bool) (x : A) → cond t x x ≡ x
-cond-same true x = refl
-cond-same false x = refl
+use Rattle.text.proofs.Texts.{same-equal}
+use Rattle.text.proofs.Tests.{and-false}
 
 -- the row of a word that is this one
 pub found : (w s : List ℕ) (ws : List (List ℕ)) → same w s ≡ true → lookUp table s ws ≡ lookUp table w ws

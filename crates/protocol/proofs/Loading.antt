@@ -1,5 +1,5 @@
 -- Numbers read one by one into a buffer that has to have room for them.
-use Rattle.protocol.specs.declared.decimal.Number.{Number}
+use Rattle.text.specs.declared.decimal.Number.{Number}
 use Prim.Native.Nat.{ℕ, suc, _+_, _-_, _≤_, _<_}
 use mathlib.Core.Path.{_≡_, refl, sym, ap, _∙_}
 use mathlib.Core.Bool.{true, false}
@@ -11,11 +11,11 @@ use native.Mathlib.Numerals.{add-one}
 use native.Mathlib.Decide.{decLe, decLt}
 use native.Mathlib.Omega.{arith}
 use borrow.Author.Tests.{le-leb, lt-leb}
-use Rattle.protocol.specs.Text.{before}
-use Rattle.protocol.specs.Decimal.{numberOf}
-use Rattle.protocol.specs.Words.{words}
+use Rattle.text.specs.Text.{before}
+use Rattle.text.specs.Decimal.{numberOf}
+use Rattle.text.specs.Words.{words}
 use Rattle.protocol.specs.Command.{allNumbers, fewNumbers, numbersIn, valuesOf}
-use Rattle.protocol.proofs.Decimals.{and-false}
+use Rattle.text.proofs.Tests.{and-false}
 use Rattle.protocol.proofs.Splitting.{words-whole, words-part, Led, led}
 
 -- the same test of two pairs of numbers

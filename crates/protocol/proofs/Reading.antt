@@ -9,13 +9,13 @@ use lib.Dec.{leb, eqb}
 use native.Mathlib.Decide.{decLt}
 use native.Mathlib.Omega.{arith}
 use borrow.Author.Tests.{eq-eqb, ne-eqb, le-leb, lt-leb, leb-false}
-use Rattle.protocol.specs.declared.decimal.Number.{Number}
+use Rattle.text.specs.declared.decimal.Number.{Number}
 use Rattle.protocol.specs.declared.command.Command.{Command}
-use Rattle.protocol.specs.Text.{text, same, before}
-use Rattle.protocol.specs.Decimal.{numberOf}
-use Rattle.protocol.specs.Words.{words}
+use Rattle.text.specs.Text.{text, same, before}
+use Rattle.text.specs.Decimal.{numberOf}
+use Rattle.text.specs.Words.{words}
 use Rattle.protocol.specs.Command.{ranged, allNumbers, areNumbers, fewNumbers, numbersIn, valuesOf, table, lookUp, byWords, commandOf, beside, operandsOf}
-use Rattle.protocol.proofs.Decimals.{and-false, and-true}
+use Rattle.text.proofs.Tests.{and-false, and-true}
 use Rattle.protocol.proofs.Splitting.{before-most, words-whole, words-part, words-split, rest-of, number-word, led}
 use Rattle.protocol.proofs.Commands.{cond-same, found}
 use Rattle.protocol.proofs.Loading.{no-number, one-number, none-left, one-value, numbers-none, numbers-all}

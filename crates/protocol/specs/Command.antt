@@ -6,12 +6,12 @@ use mathlib.Core.List.{List, [], _∷_, map}
 use lib.ListN.{length, take}
 use lib.Dec.{leb, eqb}
 use Rattle.flag.specs.Flag.{allOf}
-use Rattle.protocol.specs.declared.decimal.Number.{Number}
+use Rattle.text.specs.declared.decimal.Number.{Number}
 use Rattle.protocol.specs.declared.command.Call.{Call}
 use Rattle.protocol.specs.declared.command.Command.{Command}
-use Rattle.protocol.specs.Text.{text, same}
-use Rattle.protocol.specs.Decimal.{numberOf}
-use Rattle.protocol.specs.Words.{words}
+use Rattle.text.specs.Text.{text, same}
+use Rattle.text.specs.Decimal.{numberOf}
+use Rattle.text.specs.Words.{words}
 
 -- What the words after the first make of a command: their numbers have to be as many as it takes, each in its range.
 

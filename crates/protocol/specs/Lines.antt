@@ -7,7 +7,7 @@ use lib.ListN.{length, take, drop, replicate}
 use lib.Dec.{eqb}
 use Rattle.device.specs.State.{freshOf}
 use Rattle.protocol.specs.declared.session.Session.{Session}
-use Rattle.protocol.specs.Text.{before}
+use Rattle.text.specs.Text.{before}
 use Rattle.protocol.specs.Command.{commandOf, operandsOf}
 use Rattle.protocol.specs.Session.{held, saidOf, nextOf, keptOf}
 

@@ -3,8 +3,8 @@
 use Prim.Native.Nat.{ℕ}
 use mathlib.Core.List.{List, _++_}
 use Rattle.capture.specs.declared.Outcome.{Outcome}
-use Rattle.protocol.specs.Text.{text}
-use Rattle.protocol.specs.Decimal.{wordOf}
+use Rattle.text.specs.Text.{text}
+use Rattle.text.specs.Decimal.{wordOf}
 
 -- the place of the record, the byte seen and the model's byte
 abbrev pub differsLine : ℕ → ℕ → ℕ → List ℕ

@@ -18,8 +18,8 @@ use Rattle.capture.specs.Replay.{replayOf}
 use Rattle.protocol.specs.declared.command.Call.{Call}
 use Rattle.protocol.specs.declared.command.Command.{Command}
 use Rattle.protocol.specs.declared.session.Session.{Session}
-use Rattle.protocol.specs.Text.{text}
-use Rattle.protocol.specs.Decimal.{lineOf}
+use Rattle.text.specs.Text.{text}
+use Rattle.text.specs.Decimal.{lineOf}
 use Rattle.protocol.specs.Numbers.{numbersOf, fits, stateOf}
 use Rattle.protocol.specs.Outcome.{outcomeLine}
 

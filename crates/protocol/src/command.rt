@@ -8,10 +8,10 @@ ghost use mathlib.Core.Bool.{false};
 ghost use mathlib.Core.List.{List, [], _∷_};
 ghost use Prim.Native.Nat.{ℕ, _≤_};
 ghost use lib.ListN.{length, take};
-ghost use Rattle.protocol.specs.Text.{text};
-ghost use Rattle.protocol.specs.Text.{same as «same-text»};
-ghost use Rattle.protocol.specs.Decimal.{numberOf};
-ghost use Rattle.protocol.specs.Words.{words as «words-of»};
+ghost use Rattle.text.specs.Text.{text};
+ghost use Rattle.text.specs.Text.{same as «same-text»};
+ghost use Rattle.text.specs.Decimal.{numberOf};
+ghost use Rattle.text.specs.Words.{words as «words-of»};
 ghost use Rattle.protocol.specs.Command.{numbersIn, valuesOf, table, lookUp, commandOf, beside, operandsOf};
 
 // A call that moves the current state by a step.

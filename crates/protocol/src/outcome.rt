@@ -4,7 +4,7 @@ use crate::decimal;
 use capture::Outcome;
 ghost use Prim.Native.Nat.{_+_, _≤_};
 ghost use lib.ListN.{length};
-ghost use Rattle.protocol.specs.Text.{Appended};
+ghost use Rattle.text.specs.Text.{Appended};
 ghost use Rattle.protocol.specs.Outcome.{differsLine, refusedLine, outcomeLine};
 
 // Puts the line of a byte that differs.

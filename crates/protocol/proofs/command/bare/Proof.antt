@@ -1,5 +1,5 @@
 -- A word that is one of these has its row; any other has none, or one that asks for a number.
-use Rattle.protocol.specs.Text.{text, same}
+use Rattle.text.specs.Text.{text, same}
 use Rattle.protocol.specs.Command.{table, lookUp}
 use Rattle.protocol.proofs.Commands.{found, no-bare}
 use mathlib.Core.Path.{refl, sym, _∙_}

@@ -1,6 +1,6 @@
 -- What stands before the first space is the address, and all that follows it the byte.
 use lib.Seq.{length-take-le}
-use Rattle.protocol.specs.Decimal.{numberOf}
+use Rattle.text.specs.Decimal.{numberOf}
 use Rattle.protocol.proofs.Splitting.{rest-of, write-single, write-no-address, write-large-address, write-no-byte, write-large-byte, write-both}
 use Prim.Native.Nat.{_+_}
 use mathlib.Core.Path.{refl, sym, ap, _∙_}

@@ -1,6 +1,6 @@
 -- One text after another.
-use Rattle.protocol.proofs.Texts.{appended-then}
-use Rattle.protocol.proofs.Decimals.{long-room, byte-room, word-long}
+use Rattle.text.proofs.Texts.{appended-then}
+use Rattle.text.proofs.Decimals.{long-room, byte-room, word-long}
 use Prim.Native.Nat.{_-_}
 use native.Mathlib.Omega.{arith}
 use borrow.Author.Needs.{needs}

@@ -1,5 +1,5 @@
 -- The numbers fill the buffer of those that are kept.
-use Rattle.protocol.proofs.Texts.{appended-whole}
+use Rattle.text.proofs.Texts.{appended-whole}
 use mathlib.Core.Path.{_≡_, sym, _∙_}
 use lib.ListN.{length}
 use borrow.Author.Needs.{needs}

@@ -1,5 +1,5 @@
 -- The numbers of the state, or those loaded last.
-use Rattle.protocol.proofs.Decimals.{line-room}
+use Rattle.text.proofs.Decimals.{line-room}
 use Rattle.protocol.specs.Session.{currentNumbers}
 use mathlib.Core.Path.{_≡_}
 use lib.ListN.{length}

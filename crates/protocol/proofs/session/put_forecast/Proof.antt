@@ -1,6 +1,6 @@
 -- A line of the two numbers of the forecast.
-use Rattle.protocol.proofs.Texts.{appended-as}
-use Rattle.protocol.specs.Decimal.{lineOf}
+use Rattle.text.proofs.Texts.{appended-as}
+use Rattle.text.specs.Decimal.{lineOf}
 use Rattle.protocol.specs.Session.{forecastNumbers}
 use Rattle.device.specs.declared.Forecasted.{Forecasted}
 use mathlib.Core.Path.{ap}

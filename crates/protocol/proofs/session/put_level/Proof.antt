@@ -1,6 +1,6 @@
 -- A line of the number and the level.
-use Rattle.protocol.proofs.Texts.{appended-as}
-use Rattle.protocol.specs.Decimal.{lineOf}
+use Rattle.text.proofs.Texts.{appended-as}
+use Rattle.text.specs.Decimal.{lineOf}
 use Rattle.protocol.specs.Session.{levelNumbers}
 use Rattle.device.specs.declared.Leveled.{Leveled}
 use Prim.Native.Nat.{ℕ}

@@ -1,6 +1,6 @@
 -- The state and the two numbers of the run.
-use Rattle.protocol.proofs.Texts.{appended-as}
-use Rattle.protocol.specs.Decimal.{lineOf}
+use Rattle.text.proofs.Texts.{appended-as}
+use Rattle.text.specs.Decimal.{lineOf}
 use Rattle.protocol.specs.Session.{moved, runNumbers}
 use Rattle.device.specs.declared.Ran.{Ran}
 use mathlib.Core.Path.{ap}

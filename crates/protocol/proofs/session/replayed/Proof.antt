@@ -1,5 +1,5 @@
 -- The state and the outcome of the replay.
-use Rattle.protocol.proofs.Texts.{appended-as}
+use Rattle.text.proofs.Texts.{appended-as}
 use Rattle.protocol.specs.Outcome.{outcomeLine}
 use Rattle.protocol.specs.Session.{moved}
 use Rattle.capture.specs.declared.Replayed.{Replayed}

@@ -1,9 +1,9 @@
 -- The state and the eight numbers of the step.
-use Rattle.protocol.proofs.Texts.{appended-as}
-use Rattle.protocol.specs.Decimal.{lineOf}
+use Rattle.text.proofs.Texts.{appended-as}
+use Rattle.text.specs.Decimal.{lineOf}
 use Rattle.protocol.specs.Session.{moved, stepNumbers}
 use Rattle.device.specs.declared.Answer.{Answer}
-use Rattle.protocol.proofs.Decimals.{line-room}
+use Rattle.text.proofs.Decimals.{line-room}
 use mathlib.Core.Path.{_≡_, ap, _∙_}
 use lib.ListN.{length}
 use native.Mathlib.Omega.{arith}
