@@ -1,21 +1,12 @@
 -- Each way out has the row of the first word, and the words that follow it.
 use lib.Seq.{length-take-le}
-use Rattle.protocol.proofs.Reading.{line-whole, line-operands, line-row, line-number, line-none, no-operands}
-use Prim.Native.Nat.{_-_}
+use Rattle.command.proofs.Reading.{line-whole, line-operands, line-row, line-number, line-none, no-operands}
 use mathlib.Core.Path.{refl, sym, _∙_}
 use mathlib.Core.List.{[]}
 use native.Mathlib.Omega.{arith}
 use borrow.Author.Needs.{needs}
-use Rattle.protocol.proofs.command.command_of.Statement.{statement}
-use Rattle.protocol.proofs.command.command_of.Tie as tie
-use Rattle.protocol.proofs.command.bare.Reads as bare-reads
-use Rattle.protocol.proofs.command.load.Reads as load-reads
-use Rattle.protocol.proofs.command.replay.Reads as replay-reads
-use Rattle.protocol.proofs.command.with_number.Reads as with-number-reads
-use Rattle.protocol.proofs.command.write.Reads as write-reads
-use Rattle.protocol.proofs.decimal.number_of.Reads as number-of-reads
-use Rattle.protocol.proofs.words.same.Reads as same-reads
-use Rattle.protocol.proofs.words.word_end.Reads as word-end-reads
+use Rattle.command.proofs.command_of.Statement.{statement}
+use Rattle.command.proofs.command_of.Tie as tie
 
 word-end-requires : tie.Need-word-end-requires
 word-end-requires c κs = search needs

@@ -7,11 +7,20 @@ use lib.ListN.{length, take}
 use lib.Dec.{leb, eqb}
 use Rattle.flag.specs.Flag.{allOf}
 use Rattle.text.specs.declared.decimal.Number.{Number}
-use Rattle.protocol.specs.declared.command.Call.{Call}
-use Rattle.protocol.specs.declared.command.Command.{Command}
+use Rattle.command.specs.declared.Call.{Call}
+use Rattle.command.specs.declared.Command.{Command}
 use Rattle.text.specs.Text.{text, same}
 use Rattle.text.specs.Decimal.{numberOf}
 use Rattle.text.specs.Words.{words}
+use Rattle.numbers.specs.Numbers.{stateCount}
+
+-- the most records of a line
+abbrev pub mostRecords : ℕ
+mostRecords = 1024
+
+-- the most numbers that a line has: a version and its records
+abbrev pub mostNumbers : ℕ
+mostNumbers = mostRecords + 1
 
 -- What the words after the first make of a command: their numbers have to be as many as it takes, each in its range.
 
@@ -84,7 +93,7 @@ row s f = record { name = s; form = f }
 unfoldable pub table : List Row
 table =
     row "fresh" (bare Command.Fresh)
-    ∷ row "load" (many 348 Command.Load)
+    ∷ row "load" (many stateCount Command.Load)
     ∷ row "state" (bare Command.State)
     ∷ row "reset" (bare (Command.Step Call.Reset))
     ∷ row "read" (one 0 255 (λ a. Command.Step (Call.Read a)))
@@ -97,7 +106,7 @@ table =
     ∷ row "forecast" (bare Command.Forecast)
     ∷ row "level" (one 0 4294967295 Command.Level)
     ∷ row "run" (one 0 4294967295 Command.Run)
-    ∷ row "replay" (listed 65535 1024 Command.Replay)
+    ∷ row "replay" (listed 65535 mostRecords Command.Replay)
     ∷ []
 
 -- the row of a word
@@ -122,7 +131,7 @@ rest (w ∷ ws) = ws
 -- how many of a line's numbers stand beside its command: the state of `load`, the version and the records of `replay`
 abbrev pub beside : Command → ℕ
 beside Command.Fresh = 0
-beside Command.Load = 348
+beside Command.Load = stateCount
 beside Command.State = 0
 beside (Command.Step c) = 0
 beside Command.Pins = 0

@@ -1,12 +1,12 @@
 -- The first `i` numbers stand in the buffer, and the next word begins at `at`.
 use lib.ListN.{length-set, length}
-use Rattle.protocol.proofs.Loading.{Filling, fill-begins, fill-ends, fill-no-number, fill-turns, fill-last, fill-all}
+use Rattle.command.proofs.Loading.{Filling, fill-begins, fill-ends, fill-no-number, fill-turns, fill-last, fill-all}
 use Prim.Native.Nat.{_-_}
 use mathlib.Core.Path.{refl, sym, _∙_}
 use native.Mathlib.Omega.{arith}
 use borrow.Author.Needs.{needs}
-use Rattle.protocol.proofs.command.read_numbers.Statement.{statement}
-use Rattle.protocol.proofs.command.read_numbers.Tie as tie
+use Rattle.command.proofs.read_numbers.Statement.{statement}
+use Rattle.command.proofs.read_numbers.Tie as tie
 
 abbrev Inv-loop : tie.InvT-loop
 Inv-loop numbers to₀ at₀ i₀ to at i = Filling numbers to₀ to at i

@@ -1,12 +1,11 @@
 -- The first number is the version, and the others are the records.
-use Rattle.protocol.proofs.Reading.{replay-none, replay-large, replay-some}
+use Rattle.command.proofs.Reading.{replay-none, replay-large, replay-some}
 use Prim.Native.Nat.{_+_, _-_}
 use mathlib.Core.Path.{_≡_, refl}
 use native.Mathlib.Omega.{arith}
 use borrow.Author.Needs.{needs}
-use Rattle.protocol.proofs.command.replay.Statement.{statement}
-use Rattle.protocol.proofs.command.replay.Tie as tie
-use Rattle.protocol.proofs.command.read_numbers.Reads as read-numbers-reads
+use Rattle.command.proofs.replay.Statement.{statement}
+use Rattle.command.proofs.replay.Tie as tie
 
 read-numbers-requires : tie.Need-read-numbers-requires
 read-numbers-requires c κs = search needs

@@ -1,12 +1,12 @@
 -- A word that is one of these has its row; any other has none, or one that asks for a number.
 use Rattle.text.specs.Text.{text, same}
-use Rattle.protocol.specs.Command.{table, lookUp}
-use Rattle.protocol.proofs.Commands.{found, no-bare}
+use Rattle.command.specs.Command.{table, lookUp}
+use Rattle.command.proofs.Commands.{found, no-bare}
 use mathlib.Core.Path.{refl, sym, _∙_}
 use mathlib.Core.List.{[]}
 use borrow.Author.Needs.{needs}
-use Rattle.protocol.proofs.command.bare.Statement.{statement}
-use Rattle.protocol.proofs.command.bare.Tie as tie
+use Rattle.command.proofs.bare.Statement.{statement}
+use Rattle.command.proofs.bare.Tie as tie
 
 slice-aggregate-same : tie.Need-slice-aggregate-same
 slice-aggregate-same c = search needs

@@ -1,14 +1,11 @@
 -- The numbers are as many as the table asks for, or not.
-use Rattle.protocol.proofs.Reading.{load-row}
-use Prim.Native.Nat.{_-_}
+use Rattle.command.proofs.Reading.{load-row}
 use mathlib.Core.Path.{refl}
-use mathlib.Core.Bool.{not}
 use native.Mathlib.Omega.{arith}
 use borrow.Author.Tests.{eq-eqb, ne-eqb}
 use borrow.Author.Needs.{needs}
-use Rattle.protocol.proofs.command.load.Statement.{statement}
-use Rattle.protocol.proofs.command.load.Tie as tie
-use Rattle.protocol.proofs.command.read_numbers.Reads as read-numbers-reads
+use Rattle.command.proofs.load.Statement.{statement}
+use Rattle.command.proofs.load.Tie as tie
 
 read-numbers-requires : tie.Need-read-numbers-requires
 read-numbers-requires c κs = search needs

@@ -1,18 +1,17 @@
 -- The table of commands: the row of a word.
-use Rattle.protocol.specs.declared.command.Command.{Command}
-use Rattle.protocol.specs.declared.command.Call.{Call}
+use Rattle.command.specs.declared.Command.{Command}
+use Rattle.command.specs.declared.Call.{Call}
 use Rattle.text.specs.declared.decimal.Number.{Number}
 use Prim.Native.Nat.{ℕ, _≤_, _<_}
-use mathlib.Core.Path.{_≡_, refl, sym, ap}
-use mathlib.Core.Bool.{Bool, true, false, cond}
+use mathlib.Core.Path.{_≡_, sym, ap}
+use mathlib.Core.Bool.{true, false}
 use mathlib.Core.List.{List, [], _∷_}
-use lib.ListN.{take}
 use borrow.Author.Tests.{le-leb, lt-leb}
 use Rattle.text.specs.Text.{text, same}
 use Rattle.text.specs.Decimal.{numberOf}
-use Rattle.protocol.specs.Command.{one, allNumbers, areNumbers, table, lookUp}
+use Rattle.command.specs.Command.{allNumbers, areNumbers, table, lookUp}
 use Rattle.text.proofs.Texts.{same-equal}
-use Rattle.text.proofs.Tests.{and-false}
+use Rattle.text.proofs.Tests.{and-false, cond-same}
 
 -- the row of a word that is this one
 pub found : (w s : List ℕ) (ws : List (List ℕ)) → same w s ≡ true → lookUp table s ws ≡ lookUp table w ws

@@ -14,9 +14,9 @@ use borrow.Author.Tests.{le-leb, lt-leb}
 use Rattle.text.specs.Text.{before}
 use Rattle.text.specs.Decimal.{numberOf}
 use Rattle.text.specs.Words.{words}
-use Rattle.protocol.specs.Command.{allNumbers, fewNumbers, numbersIn, valuesOf}
+use Rattle.command.specs.Command.{allNumbers, fewNumbers, numbersIn, valuesOf}
 use Rattle.text.proofs.Tests.{and-false}
-use Rattle.protocol.proofs.Splitting.{words-whole, words-part, Led, led}
+use Rattle.text.proofs.Splitting.{words-whole, words-part, Led, led}
 
 -- the same test of two pairs of numbers
 same-test : (a b c d : ℕ) → (a ≤ b → c ≤ d) → (c ≤ d → a ≤ b) → leb a b ≡ leb c d

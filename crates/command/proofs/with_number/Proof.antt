@@ -1,12 +1,12 @@
 -- A word that is one of these has its row, which takes the number if it is in range; any other has none, or one that asks for more numbers or for none.
 use Rattle.text.specs.Text.{text, same}
-use Rattle.protocol.proofs.Commands.{found, ticks-none, ticks-some, level-some, run-some, read-some, sin-some, modem-some, no-large, no-one}
+use Rattle.command.proofs.Commands.{found, ticks-none, ticks-some, level-some, run-some, read-some, sin-some, modem-some, no-large, no-one}
 use mathlib.Core.Path.{refl, sym, _∙_}
 use mathlib.Core.List.{[], _∷_}
 use native.Mathlib.Omega.{arith}
 use borrow.Author.Needs.{needs}
-use Rattle.protocol.proofs.command.with_number.Statement.{statement}
-use Rattle.protocol.proofs.command.with_number.Tie as tie
+use Rattle.command.proofs.with_number.Statement.{statement}
+use Rattle.command.proofs.with_number.Tie as tie
 
 slice-aggregate-same : tie.Need-slice-aggregate-same
 slice-aggregate-same c = search needs

@@ -1,25 +1,22 @@
--- The words of a line, one by one: what stands before the first space, and the words after it.
-use Rattle.protocol.specs.declared.command.Call.{Call}
-use Prim.Native.Nat.{ℕ, suc, _+_, _-_, _≤_, _<_}
+-- The row of `write`: two numbers.
+use Prim.Native.Nat.{ℕ, suc, _+_, _≤_, _<_}
 use mathlib.Core.Path.{_≡_, refl, sym, ap, _∙_}
-use mathlib.Core.Bool.{Bool, true, false, cond, _&&_}
-use mathlib.Core.List.{List, [], _∷_}
-use lib.ListN.{length, take, drop, length-drop}
-use lib.Seq.{take-all}
-use lib.Dec.{leb, eqb}
-use native.Mathlib.Numerals.{add-one}
+use mathlib.Core.Bool.{_&&_}
+use mathlib.Core.List.{List}
+use lib.ListN.{length, take, drop}
+use lib.Dec.{leb}
 use native.Mathlib.Decide.{decLt}
 use native.Mathlib.Omega.{arith}
-use borrow.Author.Tests.{le-leb, lt-leb, eqb-true}
-use Rattle.flag.specs.Flag.{allOf}
+use borrow.Author.Tests.{le-leb, lt-leb}
 use Rattle.text.specs.declared.decimal.Number.{Number}
-use Rattle.protocol.specs.declared.command.Command.{Command}
 use Rattle.text.specs.Text.{text, same, before}
-use Rattle.text.specs.Decimal.{isDigit, numberAfter, numberOf}
-use Rattle.text.specs.Words.{joined, words}
-use Rattle.protocol.specs.Command.{ranged, one, table, lookUp}
-use Rattle.text.proofs.Tests.{and-false}
-use Rattle.protocol.proofs.Commands.{cond-same}
+use Rattle.text.specs.Decimal.{numberOf}
+use Rattle.text.specs.Words.{words}
+use Rattle.text.proofs.Tests.{and-false, cond-same}
+use Rattle.text.proofs.Splitting.{before-most, words-whole, words-split, words-part, led, spaced-number}
+use Rattle.command.specs.declared.Call.{Call}
+use Rattle.command.specs.declared.Command.{Command}
+use Rattle.command.specs.Command.{ranged, one, table, lookUp}
 
 -- one number, and no second word
 pub one-word : (least most : ℕ) (f : ℕ → Command) (l : List ℕ) → one least most f (words l) ≡ ranged least most f (numberOf l)

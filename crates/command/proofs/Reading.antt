@@ -10,15 +10,16 @@ use native.Mathlib.Decide.{decLt}
 use native.Mathlib.Omega.{arith}
 use borrow.Author.Tests.{eq-eqb, ne-eqb, le-leb, lt-leb, leb-false}
 use Rattle.text.specs.declared.decimal.Number.{Number}
-use Rattle.protocol.specs.declared.command.Command.{Command}
+use Rattle.command.specs.declared.Command.{Command}
 use Rattle.text.specs.Text.{text, same, before}
 use Rattle.text.specs.Decimal.{numberOf}
 use Rattle.text.specs.Words.{words}
-use Rattle.protocol.specs.Command.{ranged, allNumbers, areNumbers, fewNumbers, numbersIn, valuesOf, table, lookUp, byWords, commandOf, beside, operandsOf}
-use Rattle.text.proofs.Tests.{and-false, and-true}
-use Rattle.protocol.proofs.Splitting.{before-most, words-whole, words-part, words-split, rest-of, number-word, led}
-use Rattle.protocol.proofs.Commands.{cond-same, found}
-use Rattle.protocol.proofs.Loading.{no-number, one-number, none-left, one-value, numbers-none, numbers-all}
+use Rattle.numbers.specs.Numbers.{stateCount}
+use Rattle.command.specs.Command.{mostRecords, mostNumbers, ranged, allNumbers, areNumbers, fewNumbers, numbersIn, valuesOf, table, lookUp, byWords, commandOf, beside, operandsOf}
+use Rattle.text.proofs.Tests.{and-false, and-true, cond-same}
+use Rattle.text.proofs.Splitting.{before-most, words-whole, words-part, words-split, rest-of, number-word, led}
+use Rattle.command.proofs.Commands.{found}
+use Rattle.command.proofs.Loading.{no-number, one-number, none-left, one-value, numbers-none, numbers-all}
 
 -- A word that takes one number, or none, where what follows is no number.
 pub no-number-row : (w r : List ℕ) → numberOf r ≡ Number.Nothing → same w (text "write") ≡ false → same w (text "load") ≡ false → same w (text "replay") ≡ false → Command.Bad ≡ lookUp table w (words r)
@@ -42,37 +43,37 @@ are-counted k m ws h l = go (allNumbers ws) (leb (length ws) m) refl
     go true false e = none 0 (λ z. absurd (omega arith)) ∙ rw (none (length ws) (λ z. absurd (omega (arith, leb-false (length ws) m e))))
     go false s e = rw (and-false s) (none 0 (λ z. absurd (omega arith)) ∙ sym (and-false (eqb (length ws) k)))
 
-pub load-row : (ws : List (List ℕ)) (n : ℕ) → n ≡ numbersIn 1025 ws → cond (eqb n 348) Command.Load Command.Bad ≡ lookUp table (text "load") ws
+pub load-row : (ws : List (List ℕ)) (n : ℕ) → n ≡ numbersIn mostNumbers ws → cond (eqb n stateCount) Command.Load Command.Bad ≡ lookUp table (text "load") ws
 unfolding lookUp table same
 load-row ws n e =
-    ap (λ (b : Bool). cond b Command.Load Command.Bad) (ap (λ (m : ℕ). eqb m 348) e ∙ are-counted 348 1025 ws (omega arith) (omega arith))
+    ap (λ (b : Bool). cond b Command.Load Command.Bad) (ap (λ (m : ℕ). eqb m stateCount) e ∙ are-counted stateCount mostNumbers ws (omega arith) (omega arith))
 
--- The row of `replay`: n numbers, of those that a buffer of 1025 takes.
+-- The row of `replay`: n numbers, of those that the buffer takes.
 module _ (n : ℕ) where
   abbrev listed-row : ℕ → Command
   listed-row first = cond (eqb n 0) Command.Bad (ranged 0 65535 (λ v. Command.Replay v (n - 1)) (Number.Value first))
 
-  replay-row : (ws : List (List ℕ)) → n ≡ numbersIn 1025 ws → lookUp table (text "replay") ws ≡ listed-row (getD (valuesOf ws) 0 0)
+  replay-row : (ws : List (List ℕ)) → n ≡ numbersIn mostNumbers ws → lookUp table (text "replay") ws ≡ listed-row (getD (valuesOf ws) 0 0)
   unfolding lookUp table same
   replay-row [] e =
-      let z : n ≡ 0 = e ∙ sym (numbers-all 1025 [] (none-left 1025)) in
+      let z : n ≡ 0 = e ∙ sym (numbers-all mostNumbers [] (none-left mostNumbers)) in
       simp (eq-eqb _ _ z)
-  replay-row (w ∷ ws) e = go (numberOf w) refl (fewNumbers 1024 ws) refl
+  replay-row (w ∷ ws) e = go (numberOf w) refl (fewNumbers mostRecords ws) refl
     where
-      go : (x : Number) → numberOf w ≡ x → (t : Bool) → fewNumbers 1024 ws ≡ t → ranged 0 65535 (λ v. cond t (Command.Replay v (length ws)) Command.Bad) x ≡ listed-row (getD (valuesOf (w ∷ ws)) 0 0)
+      go : (x : Number) → numberOf w ≡ x → (t : Bool) → fewNumbers mostRecords ws ≡ t → ranged 0 65535 (λ v. cond t (Command.Replay v (length ws)) Command.Bad) x ≡ listed-row (getD (valuesOf (w ∷ ws)) 0 0)
       go Number.Nothing d t f =
-          let z : n ≡ 0 = e ∙ sym (numbers-none 1025 (w ∷ ws) (no-number 1025 w ws d)) in
+          let z : n ≡ 0 = e ∙ sym (numbers-none mostNumbers (w ∷ ws) (no-number mostNumbers w ws d)) in
           simp (eq-eqb _ _ z)
       go (Number.Value a) d false f =
-          let z : n ≡ 0 = e ∙ sym (numbers-none 1025 (w ∷ ws) (one-number 1025 a w ws d (omega arith) ∙ f)) in
+          let z : n ≡ 0 = e ∙ sym (numbers-none mostNumbers (w ∷ ws) (one-number mostNumbers a w ws d (omega arith) ∙ f)) in
           simp (eq-eqb _ _ z) (cond-same (leb 0 a && leb a 65535) Command.Bad)
       go (Number.Value a) d true f =
-          let c : n ≡ suc (length ws) = e ∙ sym (numbers-all 1025 (w ∷ ws) (one-number 1025 a w ws d (omega arith) ∙ f)) in
+          let c : n ≡ suc (length ws) = e ∙ sym (numbers-all mostNumbers (w ∷ ws) (one-number mostNumbers a w ws d (omega arith) ∙ f)) in
           let z : (n ≡ 0 → ⊥) = λ q. absurd (omega arith) in
           let p : length ws ≡ n - 1 = omega arith in
           rw (one-value a w ws d) (simp (ne-eqb _ _ z) (ap (λ (m : ℕ). cond (leb 0 a && leb a 65535) (Command.Replay a m) Command.Bad) p))
 
-  module _ (ws : List (List ℕ)) (e : n ≡ numbersIn 1025 ws) where
+  module _ (ws : List (List ℕ)) (e : n ≡ numbersIn mostNumbers ws) where
     pub replay-none : n ≡ 0 → Command.Bad ≡ lookUp table (text "replay") ws
     replay-none z = sym (replay-row ws e ∙ simp (eq-eqb _ _ z))
 

@@ -1,8 +1,7 @@
-// What a line says.
-use crate::PLACES;
-use crate::decimal;
-use crate::decimal::Number;
-use crate::words;
+// What a line says: its command, by the table of the protocol, and the numbers beside it.
+use text::decimal;
+use text::decimal::Number;
+use text::words;
 ghost use mathlib.Core.Path.{_≡_};
 ghost use mathlib.Core.Bool.{false};
 ghost use mathlib.Core.List.{List, [], _∷_};
@@ -12,7 +11,7 @@ ghost use Rattle.text.specs.Text.{text};
 ghost use Rattle.text.specs.Text.{same as «same-text»};
 ghost use Rattle.text.specs.Decimal.{numberOf};
 ghost use Rattle.text.specs.Words.{words as «words-of»};
-ghost use Rattle.protocol.specs.Command.{numbersIn, valuesOf, table, lookUp, commandOf, beside, operandsOf};
+ghost use Rattle.command.specs.Command.{mostNumbers, numbersIn, valuesOf, table, lookUp, commandOf, beside, operandsOf};
 
 // A call that moves the current state by a step.
 pub enum Call {
@@ -151,12 +150,12 @@ fn read_numbers(numbers: &[u8], to: &mut [u32]) -> usize
 
 // The command `load` with these numbers, which are then in `to`.
 fn load(numbers: &[u8], to: &mut [u32]) -> Command
-    requires { ⌜ length (now to) ≡ 1025 ⌝ }
+    requires { ⌜ length (now to) ≡ mostNumbers ⌝ }
     ensures { λ r. ⌜ r ≡ lookUp table (text "load") («words-of» (now (numbers .entry))) ⌝ }
-    ensures { λ r. ⌜ beside r ≤ 1025 ⌝ }
+    ensures { λ r. ⌜ beside r ≤ mostNumbers ⌝ }
     ensures { λ r. ⌜ take (beside r) (now (to .exit)) ≡ take (beside r) (valuesOf («words-of» (now (numbers .entry)))) ⌝ }
 {
-    if read_numbers(numbers, to) == PLACES {
+    if read_numbers(numbers, to) == numbers::COUNT {
         return Command::Load;
     }
     Command::Bad
@@ -164,9 +163,9 @@ fn load(numbers: &[u8], to: &mut [u32]) -> Command
 
 // The command `replay` with these numbers, which are then in `to`.
 fn replay(numbers: &[u8], to: &mut [u32]) -> Command
-    requires { ⌜ length (now to) ≡ 1025 ⌝ }
+    requires { ⌜ length (now to) ≡ mostNumbers ⌝ }
     ensures { λ r. ⌜ r ≡ lookUp table (text "replay") («words-of» (now (numbers .entry))) ⌝ }
-    ensures { λ r. ⌜ beside r ≤ 1025 ⌝ }
+    ensures { λ r. ⌜ beside r ≤ mostNumbers ⌝ }
     ensures { λ r. ⌜ take (beside r) (now (to .exit)) ≡ take (beside r) (valuesOf («words-of» (now (numbers .entry)))) ⌝ }
 {
     let n = read_numbers(numbers, to);
@@ -182,9 +181,9 @@ fn replay(numbers: &[u8], to: &mut [u32]) -> Command
 
 // The command of a line, which has no newline. The numbers that stand beside it are in `to`.
 pub fn command_of(line: &[u8], to: &mut [u32]) -> Command
-    requires { ⌜ length (now to) ≡ 1025 ⌝ }
+    requires { ⌜ length (now to) ≡ mostNumbers ⌝ }
     ensures { λ r. ⌜ r ≡ commandOf (now (line .entry)) ⌝ }
-    ensures { λ r. ⌜ beside r ≤ 1025 ⌝ }
+    ensures { λ r. ⌜ beside r ≤ mostNumbers ⌝ }
     ensures { λ r. ⌜ take (beside r) (now (to .exit)) ≡ operandsOf (now (line .entry)) ⌝ }
 {
     let end = words::word_end(line, 0);

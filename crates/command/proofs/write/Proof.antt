@@ -1,13 +1,14 @@
 -- What stands before the first space is the address, and all that follows it the byte.
 use lib.Seq.{length-take-le}
 use Rattle.text.specs.Decimal.{numberOf}
-use Rattle.protocol.proofs.Splitting.{rest-of, write-single, write-no-address, write-large-address, write-no-byte, write-large-byte, write-both}
+use Rattle.text.proofs.Splitting.{rest-of}
+use Rattle.command.proofs.Writing.{write-single, write-no-address, write-large-address, write-no-byte, write-large-byte, write-both}
 use Prim.Native.Nat.{_+_}
 use mathlib.Core.Path.{refl, sym, ap, _∙_}
 use native.Mathlib.Omega.{arith}
 use borrow.Author.Needs.{needs}
-use Rattle.protocol.proofs.command.write.Statement.{statement}
-use Rattle.protocol.proofs.command.write.Tie as tie
+use Rattle.command.proofs.write.Statement.{statement}
+use Rattle.command.proofs.write.Tie as tie
 
 word-end-requires : tie.Need-word-end-requires
 word-end-requires c κs = search needs
