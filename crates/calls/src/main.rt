@@ -5,12 +5,13 @@
 // than any valid one no more is kept than shows that.
 use libc::STDIN_FILENO;
 use libc::STDOUT_FILENO;
-use protocol::lines;
-use protocol::session;
-use protocol::session::Session;
+use session::Session;
 ghost use mathlib.Core.Path.{_≡_};
 ghost use Prim.Native.Nat.{_≤_, _<_};
 ghost use lib.ListN.{length};
+ghost use Rattle.command.specs.Command.{mostNumbers};
+ghost use Rattle.numbers.specs.Numbers.{stateCount};
+ghost use Rattle.session.specs.Session.{longestAnswer};
 
 // Between two reads: the current state, the bytes kept at the start of the block, and whether to
 // go on.
@@ -39,8 +40,8 @@ fn answer_some(
     out: &mut [u8],
 ) -> Part
     requires { ⌜ from ≤ length (now block) ⌝ }
-    requires { ⌜ length (now numbers) ≡ 1025 ⌝ }
-    requires { ⌜ length (now kept) ≡ 348 ⌝ }
+    requires { ⌜ length (now numbers) ≡ mostNumbers ⌝ }
+    requires { ⌜ length (now kept) ≡ stateCount ⌝ }
     ensures { λ r. ⌜ r .next ≤ length (now (block .entry)) ⌝ }
 {
     let p = lines::answer_lines(s, block, from, numbers, kept, out);
@@ -63,8 +64,8 @@ fn answer_block(
     kept: &mut [u32],
     out: &mut [u8],
 ) -> Part
-    requires { ⌜ length (now numbers) ≡ 1025 ⌝ }
-    requires { ⌜ length (now kept) ≡ 348 ⌝ }
+    requires { ⌜ length (now numbers) ≡ mostNumbers ⌝ }
+    requires { ⌜ length (now kept) ≡ stateCount ⌝ }
     ensures { λ r. ⌜ r .next ≤ length (now (block .entry)) ⌝ }
 {
     let mut p = answer_some(s, block, 0, numbers, kept, out);
@@ -87,9 +88,9 @@ fn answer_block(
 // Answers the last line, if it lacks its newline.
 fn finish(t: Held, block: &[u8], numbers: &mut [u32], kept: &mut [u32], out: &mut [u8])
     requires { ⌜ t .used ≤ length (now block) ⌝ }
-    requires { ⌜ length (now numbers) ≡ 1025 ⌝ }
-    requires { ⌜ length (now kept) ≡ 348 ⌝ }
-    requires { ⌜ 3828 ≤ length (now out) ⌝ }
+    requires { ⌜ length (now numbers) ≡ mostNumbers ⌝ }
+    requires { ⌜ length (now kept) ≡ stateCount ⌝ }
+    requires { ⌜ longestAnswer ≤ length (now out) ⌝ }
 {
     let used = t.used;
     let s = t.session;
@@ -100,9 +101,9 @@ fn finish(t: Held, block: &[u8], numbers: &mut [u32], kept: &mut [u32], out: &mu
 // Reads once, and answers what came.
 fn turn(t: Held, block: &mut [u8], numbers: &mut [u32], kept: &mut [u32], out: &mut [u8]) -> Held
     requires { ⌜ t .used ≤ length (now block) ⌝ }
-    requires { ⌜ length (now numbers) ≡ 1025 ⌝ }
-    requires { ⌜ length (now kept) ≡ 348 ⌝ }
-    requires { ⌜ 3828 ≤ length (now out) ⌝ }
+    requires { ⌜ length (now numbers) ≡ mostNumbers ⌝ }
+    requires { ⌜ length (now kept) ≡ stateCount ⌝ }
+    requires { ⌜ longestAnswer ≤ length (now out) ⌝ }
     ensures { λ r. ⌜ r .used ≤ length (now (block .exit)) ⌝ }
 {
     let used = t.used;
@@ -132,9 +133,9 @@ fn turn(t: Held, block: &mut [u8], numbers: &mut [u32], kept: &mut [u32], out: &
 // Reads and answers until the input ends. A proved loop has to end, so it counts its turns down
 // from a number that no run uses up.
 fn serve(block: &mut [u8], numbers: &mut [u32], kept: &mut [u32], out: &mut [u8])
-    requires { ⌜ length (now numbers) ≡ 1025 ⌝ }
-    requires { ⌜ length (now kept) ≡ 348 ⌝ }
-    requires { ⌜ 3828 ≤ length (now out) ⌝ }
+    requires { ⌜ length (now numbers) ≡ mostNumbers ⌝ }
+    requires { ⌜ length (now kept) ≡ stateCount ⌝ }
+    requires { ⌜ longestAnswer ≤ length (now out) ⌝ }
 {
     let mut t = Held {
         session: session::start(),
@@ -153,8 +154,8 @@ fn serve(block: &mut [u8], numbers: &mut [u32], kept: &mut [u32], out: &mut [u8]
 
 fn main() {
     let mut block = [0u8; 65536];
-    let mut numbers = [0u32; 1025];
-    let mut kept = [0u32; 348];
+    let mut numbers = [0u32; command::MOST_NUMBERS];
+    let mut kept = [0u32; numbers::COUNT];
     let mut out = [0u8; 262144];
     serve(&mut block, &mut numbers, &mut kept, &mut out);
 }

@@ -13,6 +13,9 @@ ghost use Rattle.text.specs.Decimal.{numberOf};
 ghost use Rattle.text.specs.Words.{words as «words-of»};
 ghost use Rattle.command.specs.Command.{mostNumbers, numbersIn, valuesOf, table, lookUp, commandOf, beside, operandsOf};
 
+// The most numbers that a line has: a version and 1,024 records.
+pub const MOST_NUMBERS: usize = 1025;
+
 // A call that moves the current state by a step.
 pub enum Call {
     Reset,

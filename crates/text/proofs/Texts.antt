@@ -3,7 +3,7 @@ use Prim.Native.Nat.{ℕ, suc, _+_, _≤_, _<_}
 use mathlib.Core.Path.{_≡_, sym, refl, ap, _∙_}
 use mathlib.Core.Bool.{Bool, true, false, _&&_}
 use mathlib.Core.List.{List, [], _∷_, _++_, append-assoc}
-use lib.ListN.{length, getD, take, drop, set, length-append, drop-of-length-le}
+use lib.ListN.{length, getD, take, drop, set, length-append, length-take, drop-of-length-le}
 use lib.Seq.{take-all, drop-cons, take-suc-set}
 use lib.Dec.{eqb}
 use native.Mathlib.Numerals.{add-one}
@@ -112,3 +112,9 @@ appended-as e p = rw e at p
 -- what fills the buffer from its start is all of it
 pub appended-whole : {from to : List ℕ} {s : List ℕ} → Appended from 0 s to (0 + length s) → length to ≡ length s → to ≡ s
 appended-whole {to = to} {s = s} p l = sym (take-all (0 + length s) to (omega arith)) ∙ p .holds
+
+-- what was appended ends within the buffer
+pub appended-room : (from : List ℕ) (at : ℕ) (s to : List ℕ) (end : ℕ) → Appended from at s to end → at ≤ length from → end ≤ length to
+appended-room from at s to end p h =
+    let a : length (take end to) ≡ length (take at from) + length s = ap length (p .holds) ∙ length-append (take at from) s in
+    omega (arith, p .place, a, length-take end to, length-take at from)
