@@ -11,7 +11,8 @@ use native.Mathlib.Decide.{decLe}
 use native.Mathlib.Omega.{arith}
 use Rattle.text.specs.Text.{before, Appended}
 use Rattle.text.proofs.Texts.{appended-room}
-use Rattle.lines.specs.Lines.{lastSaid, Standing, lineSaid, lineNext, writtenAfter, Answered}
+use Rattle.session.specs.Session.{Standing, lineSaid, lineNext}
+use Rattle.lines.specs.Lines.{lastSaid, writtenAfter, Answered}
 
 -- a line that ends in d
 written-line : (w : Standing) (line d more : List ℕ) → before 10 d < length d

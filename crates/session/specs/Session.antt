@@ -3,19 +3,12 @@ use Prim.Native.Nat.{ℕ, _*_}
 use mathlib.Core.Bool.{true, false, cond}
 use mathlib.Core.List.{List, [], _∷_}
 use lib.ListN.{drop}
-use Rattle.device.specs.declared.Outputs.{Outputs}
-use Rattle.device.specs.declared.Answer.{Answer}
-use Rattle.device.specs.declared.Looked.{Looked}
-use Rattle.device.specs.declared.Forecasted.{Forecasted}
-use Rattle.device.specs.declared.Leveled.{Leveled}
-use Rattle.device.specs.declared.Ran.{Ran}
 use Rattle.device.specs.declared.State.{State}
 use Rattle.device.specs.State.{freshOf, withRegisters}
-use Rattle.device.specs.Calls.{resetOf, readOf, writeOf, sinOf, modemOf, tickOf, ticksAnswer, pinsOf}
+use Rattle.device.specs.Calls.{pinsOf}
 use Rattle.device.specs.Forecast.{forecastOf, levelOf, runOf}
 use Rattle.capture.specs.declared.Replayed.{Replayed}
 use Rattle.capture.specs.Replay.{replayOf}
-use Rattle.command.specs.declared.Call.{Call}
 use Rattle.command.specs.declared.Command.{Command}
 use Rattle.session.specs.declared.Session.{Session}
 use Rattle.text.specs.Text.{text}
@@ -23,6 +16,7 @@ use Rattle.text.specs.Decimal.{lineOf}
 use Rattle.command.specs.Command.{commandOf, operandsOf}
 use Rattle.numbers.specs.Numbers.{stateCount, numbersOf, fits, stateOf}
 use Rattle.outcome.specs.Outcome.{outcomeLine}
+use Rattle.reply.specs.Reply.{stepOf, stepNumbers, lookNumbers, forecastNumbers, levelNumbers, runNumbers}
 
 -- The current state.
 
@@ -44,41 +38,6 @@ currentNumbers s kept = cond (s .fits) (numbersOf (s .state)) kept
 -- with another state of the model
 abbrev pub moved : Session → State → Session
 moved s t = record { state = t; fits = s .fits }
-
--- The calls.
-
-unfoldable pub stepOf : State → Call → Answer
-stepOf s Call.Reset = resetOf s
-stepOf s (Call.Read a) = readOf s a
-stepOf s (Call.Write a b) = writeOf s a b
-stepOf s (Call.Sin v) = sinOf s v
-stepOf s (Call.Modem v) = modemOf s v
-stepOf s Call.Tick = tickOf s
-stepOf s (Call.Ticks n) = ticksAnswer s n
-
--- SOUT RTS DTR OUT1 OUT2 INTRPT
-abbrev pub pinsNumbers : Outputs → List ℕ
-pinsNumbers o = o .sout ∷ o .rts ∷ o .dtr ∷ o .out1 ∷ o .out2 ∷ o .intrpt ∷ []
-
--- NO BYTE SOUT RTS DTR OUT1 OUT2 INTRPT
-abbrev pub stepNumbers : Answer → List ℕ
-stepNumbers a = a .number ∷ a .byte ∷ pinsNumbers (a .outputs)
-
--- NO SOUT RTS DTR OUT1 OUT2 INTRPT
-abbrev pub lookNumbers : Looked → List ℕ
-lookNumbers l = l .number ∷ pinsNumbers (l .outputs)
-
--- NO T
-abbrev pub forecastNumbers : Forecasted → List ℕ
-forecastNumbers f = f .number ∷ f .ticks ∷ []
-
--- NO LEVEL
-abbrev pub levelNumbers : Leveled → List ℕ
-levelNumbers l = l .number ∷ l .level ∷ []
-
--- NO USED
-abbrev pub runNumbers : Ran → List ℕ
-runNumbers r = r .number ∷ r .used ∷ []
 
 -- replay of a line's records, which follow the version in its numbers ns
 abbrev pub replayedOf : State → ℕ → List ℕ → Replayed

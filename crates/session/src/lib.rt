@@ -4,11 +4,8 @@
 // buffer. Nothing here reads or writes a file.
 use command::Call;
 use command::Command;
-use device::Answer;
-use device::Looked;
 use device::Registers;
 use device::State;
-use numbers::wide;
 use text::buffer;
 use text::decimal;
 ghost use mathlib.Core.Path.{_≡_};
@@ -16,15 +13,15 @@ ghost use mathlib.Core.List.{[], _∷_};
 ghost use Prim.Native.Nat.{_+_, _≤_};
 ghost use lib.ListN.{length, take};
 ghost use Rattle.device.specs.State.{freshOf};
-ghost use Rattle.device.specs.Calls.{pinsOf};
-ghost use Rattle.device.specs.Forecast.{forecastOf, levelOf, runOf};
+ghost use Rattle.device.specs.Forecast.{runOf};
 ghost use Rattle.capture.specs.Replay.{replayOf};
 ghost use Rattle.text.specs.Text.{Appended};
 ghost use Rattle.text.specs.Decimal.{lineOf};
 ghost use Rattle.command.specs.Command.{mostNumbers, beside};
 ghost use Rattle.numbers.specs.Numbers.{stateCount};
 ghost use Rattle.outcome.specs.Outcome.{outcomeLine};
-ghost use Rattle.session.specs.Session.{held, unfitState, loadedOf, currentNumbers, stepOf, stepNumbers, lookNumbers, forecastNumbers, levelNumbers, runNumbers, longestAnswer, moved, saidOf, nextOf, keptOf, standing, lineSaid, lineNext};
+ghost use Rattle.reply.specs.Reply.{stepOf, stepNumbers, runNumbers};
+ghost use Rattle.session.specs.Session.{held, unfitState, loadedOf, currentNumbers, longestAnswer, moved, saidOf, nextOf, keptOf, standing, lineSaid, lineNext};
 
 // The longest answer: the numbers of a state, each of ten digits with a space or the newline after it.
 pub const LONGEST_ANSWER: usize = 11 * numbers::COUNT;
@@ -85,69 +82,10 @@ fn loaded(n: &[u32]) -> Session
 }
 
 // A step of the model.
-fn step(s: State, c: Call) -> Answer
-    ensures { λ r. ⌜ r ≡ stepOf s c ⌝ }
-{
-    match c {
-        Call::Reset => uart::reset(s),
-        Call::Read(a) => uart::read(s, a),
-        Call::Write(a, b) => uart::write(s, a, b),
-        Call::Sin(v) => uart::set_sin(s, v),
-        Call::Modem(v) => uart::set_modem(s, v),
-        Call::Tick => uart::tick(s),
-        Call::Ticks(n) => uart::ticks(s, n),
-    }
-}
-
 // The numbers of a step's answer.
-fn step_numbers(a: Answer) -> [u32; 8]
-    ensures { λ r. ⌜ r ≡ stepNumbers a ⌝ }
-{
-    [
-        wide(a.number),
-        wide(a.byte),
-        wide(a.outputs.sout),
-        wide(a.outputs.rts),
-        wide(a.outputs.dtr),
-        wide(a.outputs.out1),
-        wide(a.outputs.out2),
-        wide(a.outputs.intrpt),
-    ]
-}
-
 // The numbers of the pins' answer.
-fn look_numbers(l: Looked) -> [u32; 7]
-    ensures { λ r. ⌜ r ≡ lookNumbers l ⌝ }
-{
-    [
-        l.number as u32,
-        l.outputs.sout as u32,
-        l.outputs.rts as u32,
-        l.outputs.dtr as u32,
-        l.outputs.out1 as u32,
-        l.outputs.out2 as u32,
-        l.outputs.intrpt as u32,
-    ]
-}
-
 // Puts the answer `0`.
-fn put_done(out: &mut [u8], at: usize) -> usize
-    requires { ⌜ at + 11 ≤ length (now out) ⌝ }
-    ensures { λ r. ⌜ Appended (now (out .entry)) at (lineOf (0 ∷ [])) (now (out .exit)) r ⌝ }
-{
-    let n = [0u32; 1];
-    decimal::put_line(&n, out, at)
-}
-
 // Puts a number answered and one result.
-fn put_pair(number: u8, result: u32, out: &mut [u8], at: usize) -> usize
-    requires { ⌜ at + 22 ≤ length (now out) ⌝ }
-    ensures { λ r. ⌜ Appended (now (out .entry)) at (lineOf (number ∷ result ∷ [])) (now (out .exit)) r ⌝ }
-{
-    let n = [number as u32, result];
-    decimal::put_line(&n, out, at)
-}
-
 // Puts the numbers of the current state.
 fn put_current(s: Session, kept: &[u32], out: &mut [u8], at: usize) -> usize
     requires { ⌜ length (now kept) ≡ stateCount ⌝ }
@@ -170,8 +108,8 @@ fn stepped(s: Session, c: Call, out: &mut [u8], at: usize) -> Said
     ensures { λ r. ⌜ Appended (now (out .entry)) at (lineOf (stepNumbers (stepOf (s .state) c))) (now (out .exit)) (r .end) ⌝ }
 {
     let t = s.state;
-    let a = step(t, c);
-    let n = step_numbers(a);
+    let a = reply::step(t, c);
+    let n = reply::step_numbers(a);
     let end = decimal::put_line(&n, out, at);
     let state = a.state;
     Said {
@@ -191,7 +129,7 @@ fn ran(s: Session, n: u32, out: &mut [u8], at: usize) -> Said
 {
     let t = s.state;
     let a = uart::run(t, n);
-    let end = put_pair(a.number, a.used, out, at);
+    let end = reply::put_pair(a.number, a.used, out, at);
     let state = a.state;
     Said {
         session: Session {
@@ -223,32 +161,8 @@ fn replayed(s: Session, version: u32, records: &[u32], out: &mut [u8], at: usize
 }
 
 // Puts the pins as they are.
-fn put_pins(s: State, out: &mut [u8], at: usize) -> usize
-    requires { ⌜ at + 77 ≤ length (now out) ⌝ }
-    ensures { λ r. ⌜ Appended (now (out .entry)) at (lineOf (lookNumbers (pinsOf s))) (now (out .exit)) r ⌝ }
-{
-    let n = look_numbers(uart::pins(s));
-    decimal::put_line(&n, out, at)
-}
-
 // Puts the forecast.
-fn put_forecast(s: State, out: &mut [u8], at: usize) -> usize
-    requires { ⌜ at + 22 ≤ length (now out) ⌝ }
-    ensures { λ r. ⌜ Appended (now (out .entry)) at (lineOf (forecastNumbers (forecastOf s))) (now (out .exit)) r ⌝ }
-{
-    let a = uart::forecast(s);
-    put_pair(a.number, a.ticks, out, at)
-}
-
 // Puts the level of the transmitter's line after t ticks.
-fn put_level(s: State, t: u32, out: &mut [u8], at: usize) -> usize
-    requires { ⌜ at + 22 ≤ length (now out) ⌝ }
-    ensures { λ r. ⌜ Appended (now (out .entry)) at (lineOf (levelNumbers (levelOf s t))) (now (out .exit)) r ⌝ }
-{
-    let a = uart::level(s, t);
-    put_pair(a.number, wide(a.level), out, at)
-}
-
 // Loads numbers, and puts the answer.
 fn load(numbers: &[u32], kept: &mut [u32], out: &mut [u8], at: usize) -> Said
     requires { ⌜ length (now numbers) ≡ stateCount ⌝ }
@@ -259,7 +173,7 @@ fn load(numbers: &[u32], kept: &mut [u32], out: &mut [u8], at: usize) -> Said
     ensures { λ r. ⌜ Appended (now (out .entry)) at (lineOf (0 ∷ [])) (now (out .exit)) (r .end) ⌝ }
 {
     numbers::put(numbers, kept, 0);
-    let end = put_done(out, at);
+    let end = reply::put_done(out, at);
     Said {
         session: loaded(numbers),
         end,
@@ -288,7 +202,7 @@ pub fn answer(
         Command::Step(call) => stepped(s, call, out, at),
         Command::Fresh => Said {
             session: start(),
-            end: put_done(out, at),
+            end: reply::put_done(out, at),
         },
         Command::Load => load(&numbers[..numbers::COUNT], kept, out, at),
         Command::State => Said {
@@ -297,15 +211,15 @@ pub fn answer(
         },
         Command::Pins => Said {
             session: s,
-            end: put_pins(t, out, at),
+            end: reply::put_pins(t, out, at),
         },
         Command::Forecast => Said {
             session: s,
-            end: put_forecast(t, out, at),
+            end: reply::put_forecast(t, out, at),
         },
         Command::Level(n) => Said {
             session: s,
-            end: put_level(t, n, out, at),
+            end: reply::put_level(t, n, out, at),
         },
         Command::Run(n) => ran(s, n, out, at),
         Command::Replay(version, n) => {

@@ -1,5 +1,5 @@
 -- The lines before `next` are answered, and their answers stand up to `end`.
-use Rattle.lines.specs.Lines.{standing}
+use Rattle.session.specs.Session.{standing}
 use Rattle.lines.proofs.Blocks.{Answering, answer-turns, answer-none, answer-full}
 use Prim.Native.Nat.{_-_}
 use mathlib.Core.Path.{_≡_, refl, _∙_}

@@ -1,7 +1,8 @@
 -- The state and the two numbers of the run.
 use Rattle.text.proofs.Texts.{appended-as}
 use Rattle.text.specs.Decimal.{lineOf}
-use Rattle.session.specs.Session.{moved, runNumbers}
+use Rattle.reply.specs.Reply.{runNumbers}
+use Rattle.session.specs.Session.{moved}
 use Rattle.device.specs.declared.Ran.{Ran}
 use mathlib.Core.Path.{ap}
 use borrow.Author.Needs.{needs}

@@ -1,7 +1,8 @@
 -- The state and the eight numbers of the step.
 use Rattle.text.proofs.Texts.{appended-as}
 use Rattle.text.specs.Decimal.{lineOf}
-use Rattle.session.specs.Session.{moved, stepNumbers}
+use Rattle.reply.specs.Reply.{stepNumbers}
+use Rattle.session.specs.Session.{moved}
 use Rattle.device.specs.declared.Answer.{Answer}
 use Rattle.text.proofs.Decimals.{line-room}
 use mathlib.Core.Path.{_≡_, ap, _∙_}

@@ -1,7 +1,7 @@
 -- Each number is as wide as the place.
 use borrow.Author.Needs.{needs}
-use Rattle.session.proofs.step_numbers.Statement.{statement}
-use Rattle.session.proofs.step_numbers.Tie as tie
+use Rattle.reply.proofs.step_numbers.Statement.{statement}
+use Rattle.reply.proofs.step_numbers.Tie as tie
 
 wide-requires : tie.Need-wide-requires
 wide-requires c κs = search needs

@@ -1,14 +1,14 @@
 -- A line of the number and the six levels.
 use Rattle.text.proofs.Texts.{appended-as}
 use Rattle.text.specs.Decimal.{lineOf}
-use Rattle.session.specs.Session.{lookNumbers}
+use Rattle.reply.specs.Reply.{lookNumbers}
 use Rattle.text.proofs.Decimals.{line-room}
 use mathlib.Core.Path.{_≡_, ap, _∙_}
 use lib.ListN.{length}
 use native.Mathlib.Omega.{arith}
 use borrow.Author.Needs.{needs}
-use Rattle.session.proofs.put_pins.Statement.{statement}
-use Rattle.session.proofs.put_pins.Tie as tie
+use Rattle.reply.proofs.put_pins.Statement.{statement}
+use Rattle.reply.proofs.put_pins.Tie as tie
 
 pins-requires : tie.Need-pins-requires
 pins-requires c κs = search needs

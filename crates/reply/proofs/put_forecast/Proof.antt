@@ -1,12 +1,12 @@
 -- A line of the two numbers of the forecast.
 use Rattle.text.proofs.Texts.{appended-as}
 use Rattle.text.specs.Decimal.{lineOf}
-use Rattle.session.specs.Session.{forecastNumbers}
+use Rattle.reply.specs.Reply.{forecastNumbers}
 use Rattle.device.specs.declared.Forecasted.{Forecasted}
 use mathlib.Core.Path.{ap}
 use borrow.Author.Needs.{needs}
-use Rattle.session.proofs.put_forecast.Statement.{statement}
-use Rattle.session.proofs.put_forecast.Tie as tie
+use Rattle.reply.proofs.put_forecast.Statement.{statement}
+use Rattle.reply.proofs.put_forecast.Tie as tie
 
 forecast-requires : tie.Need-forecast-requires
 forecast-requires c κs = search needs

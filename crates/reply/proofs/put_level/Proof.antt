@@ -1,14 +1,14 @@
 -- A line of the number and the level.
 use Rattle.text.proofs.Texts.{appended-as}
 use Rattle.text.specs.Decimal.{lineOf}
-use Rattle.session.specs.Session.{levelNumbers}
+use Rattle.reply.specs.Reply.{levelNumbers}
 use Rattle.device.specs.declared.Leveled.{Leveled}
 use Prim.Native.Nat.{ℕ}
 use mathlib.Core.Path.{ap, _∙_}
 use mathlib.Core.List.{[], _∷_}
 use borrow.Author.Needs.{needs}
-use Rattle.session.proofs.put_level.Statement.{statement}
-use Rattle.session.proofs.put_level.Tie as tie
+use Rattle.reply.proofs.put_level.Statement.{statement}
+use Rattle.reply.proofs.put_level.Tie as tie
 
 level-requires : tie.Need-level-requires
 level-requires c κs = search needs

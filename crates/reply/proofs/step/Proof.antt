@@ -1,9 +1,9 @@
 -- Each way has the call that the definition has.
-use Rattle.session.specs.Session.{stepOf}
+use Rattle.reply.specs.Reply.{stepOf}
 use mathlib.Core.Path.{sym, ap, _∙_}
 use borrow.Author.Needs.{needs}
-use Rattle.session.proofs.step.Statement.{statement}
-use Rattle.session.proofs.step.Tie as tie
+use Rattle.reply.proofs.step.Statement.{statement}
+use Rattle.reply.proofs.step.Tie as tie
 
 enum-told : tie.Need-enum-told
 enum-told c = search needs
