@@ -3,11 +3,13 @@ use Prim.Native.Nat.{_≤_}
 use mathlib.Core.Path.{_≡_, _∙_}
 use lib.ListN.{length}
 use borrow.Author.Needs.{needs}
+use Rattle.command.specs.Command.{mostNumbers}
+use Rattle.numbers.specs.Numbers.{stateCount}
 use Rattle.calls.proofs.serve.Statement.{statement}
 use Rattle.calls.proofs.serve.Tie as tie
 
 abbrev Inv-loop : tie.InvT-loop
-Inv-loop block₀ numbers₀ kept₀ out₀ t₀ turns₀ block numbers kept out t turns = (length numbers ≡ 1025) × ((length kept ≡ 348) × ((length out ≡ length out₀) × ((length block ≡ length block₀) × (t .used ≤ length block))))
+Inv-loop block₀ numbers₀ kept₀ out₀ t₀ turns₀ block numbers kept out t turns = (length numbers ≡ mostNumbers) × ((length kept ≡ stateCount) × ((length out ≡ length out₀) × ((length block ≡ length block₀) × (t .used ≤ length block))))
 
 abbrev μ-loop : tie.MeasureT-loop
 μ-loop block₀ numbers₀ kept₀ out₀ t₀ turns₀ block numbers kept out t turns = turns

@@ -30,6 +30,12 @@ part-count-end c = search needs
 count-requires : tie.Need-count-requires
 count-requires c κs = search needs
 
+slice-reshare-prefix-finish : tie.Need-slice-reshare-prefix-finish
+slice-reshare-prefix-finish c = search needs
+
+slice-aggregate-finish : tie.Need-slice-aggregate-finish
+slice-aggregate-finish c = sym (length-take-le _ _ (slice-reshare-prefix-finish (c .before)))
+
 finish-requires : tie.Need-finish-requires
 finish-requires c κs = search needs
 
@@ -91,6 +97,8 @@ turn-spec =
     part-count-start
     part-count-end
     count-requires
+    slice-reshare-prefix-finish
+    slice-aggregate-finish
     finish-requires
     same-length
     same-length-2
