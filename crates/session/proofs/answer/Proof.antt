@@ -21,7 +21,7 @@ enum-told : tie.Need-enum-told
 enum-told c = search needs
 
 start-requires : tie.Need-start-requires
-start-requires c κs = search needs
+start-requires c κs = tt
 
 put-done-requires : tie.Need-put-done-requires
 put-done-requires c κs = search needs
@@ -99,24 +99,24 @@ put-requires : tie.Need-put-requires
 put-requires c κs = search needs
 
 same-length : tie.Need-same-length
-same-length c = search needs
+same-length c = c .before .before .stepped .kept .1 .1 .0
 
 returns : tie.Need-returns
 unfolding nextOf keptOf saidOf
 returns c = rw (c .before .before .before .before .before .c .given .1) (c .before .before .stepped .ensures .0, (refl, c .before .before .stepped .ensures .1))
 
 same-length-2 : tie.Need-same-length-2
-same-length-2 c = search needs
+same-length-2 c = c .before .before .put-done .kept .0
 
 returns-2 : tie.Need-returns-2
 unfolding nextOf keptOf saidOf
 returns-2 c = rw (c .before .before .before .before .before .enum-told .given .1) (c .before .before .before .before .start .ensures, (refl, c .before .before .put-done .ensures))
 
 same-length-3 : tie.Need-same-length-3
-same-length-3 c = search needs
+same-length-3 c = c .before .before .before .before .load .kept .1 .0
 
 same-length-4 : tie.Need-same-length-4
-same-length-4 c = search needs
+same-length-4 c = c .before .before .before .before .load .kept .1 .1 .0
 
 returns-3 : tie.Need-returns-3
 unfolding nextOf keptOf saidOf
@@ -126,42 +126,42 @@ same-length-5 : tie.Need-same-length-5
 same-length-5 c = search needs
 
 same-length-6 : tie.Need-same-length-6
-same-length-6 c = search needs
+same-length-6 c = c .before .before .put-current .kept .1 .1 .0
 
 returns-4 : tie.Need-returns-4
 unfolding nextOf keptOf saidOf
 returns-4 c = rw (c .before .before .before .before .before .enum-told3 .given .1) (refl, (refl, c .before .before .put-current .ensures))
 
 same-length-7 : tie.Need-same-length-7
-same-length-7 c = search needs
+same-length-7 c = c .before .before .put-pins .kept .1 .0
 
 returns-5 : tie.Need-returns-5
 unfolding nextOf keptOf saidOf
 returns-5 c = rw (c .before .before .before .before .enum-told4 .given .1) (refl, (refl, c .before .before .put-pins .ensures))
 
 same-length-8 : tie.Need-same-length-8
-same-length-8 c = search needs
+same-length-8 c = c .before .before .put-forecast .kept .1 .0
 
 returns-6 : tie.Need-returns-6
 unfolding nextOf keptOf saidOf
 returns-6 c = rw (c .before .before .before .before .enum-told5 .given .1) (refl, (refl, c .before .before .put-forecast .ensures))
 
 same-length-9 : tie.Need-same-length-9
-same-length-9 c = search needs
+same-length-9 c = c .before .before .put-level .kept .1 .1 .0
 
 returns-7 : tie.Need-returns-7
 unfolding nextOf keptOf saidOf
 returns-7 c = rw (c .before .before .before .before .before .c2 .given .1) (refl, (refl, c .before .before .put-level .ensures))
 
 same-length-10 : tie.Need-same-length-10
-same-length-10 c = search needs
+same-length-10 c = c .before .before .ran .kept .1 .1 .0
 
 returns-8 : tie.Need-returns-8
 unfolding nextOf keptOf saidOf
 returns-8 c = rw (c .before .before .before .before .before .c3 .given .1) (c .before .before .ran .ensures .0, (refl, c .before .before .ran .ensures .1))
 
 same-length-11 : tie.Need-same-length-11
-same-length-11 c = search needs
+same-length-11 c = c .before .before .replayed .kept .1 .1 .1 .0
 
 returns-9 : tie.Need-returns-9
 unfolding nextOf keptOf saidOf
@@ -170,7 +170,7 @@ returns-9 c =
     rw (c .before .before .before .before .before .before .c4 .given .1) (rw p at (c .before .before .replayed .ensures .0), (refl, rw p at (c .before .before .replayed .ensures .1)))
 
 same-length-12 : tie.Need-same-length-12
-same-length-12 c = search needs
+same-length-12 c = c .before .before .put .kept .1 .0
 
 returns-10 : tie.Need-returns-10
 unfolding nextOf keptOf saidOf

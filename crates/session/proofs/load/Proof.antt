@@ -16,10 +16,10 @@ loaded-requires : tie.Need-loaded-requires
 loaded-requires c κs = search needs
 
 same-length : tie.Need-same-length
-same-length c = search needs
+same-length c = c .before .before .before .before .before .before .before .put .kept .1 .0
 
 same-length-2 : tie.Need-same-length-2
-same-length-2 c = search needs
+same-length-2 c = c .before .before .before .put-done .kept .0
 
 returns : tie.Need-returns
 returns c =

@@ -18,7 +18,7 @@ unfolding loadedOf
 returns c = ap held (c .state-of .ensures) ∙ simp (sym (c .before .before .fits2 .ensures) ∙ c .before .if1 .taken)
 
 unfit-requires : tie.Need-unfit-requires
-unfit-requires c κs = search needs
+unfit-requires c κs = tt
 
 returns-2 : tie.Need-returns-2
 unfolding loadedOf

@@ -24,7 +24,7 @@ put-line-requires c κs =
     omega (arith, line-room (c .before .before .before .put-state .last .1 .0), c .before .before .before .before .before .before .before .before .before .pre .1)
 
 same-length : tie.Need-same-length
-same-length c = search needs
+same-length c = c .before .before .put-line .kept .1 .0
 
 returns : tie.Need-returns
 unfolding currentNumbers
@@ -34,7 +34,7 @@ put-line-requires-2 : tie.Need-put-line-requires-2
 put-line-requires-2 c κs = omega (arith, line-room (c .before .before .before .before .args .kept .now), c .before .before .before .before .pre .0, c .before .before .before .before .pre .1)
 
 same-length-2 : tie.Need-same-length-2
-same-length-2 c = search needs
+same-length-2 c = c .before .before .put-line2 .kept .1 .0
 
 returns-2 : tie.Need-returns-2
 unfolding currentNumbers

@@ -10,13 +10,13 @@ use Rattle.session.proofs.ran.Statement.{statement}
 use Rattle.session.proofs.ran.Tie as tie
 
 run-requires : tie.Need-run-requires
-run-requires c κs = search needs
+run-requires c κs = tt
 
 put-pair-requires : tie.Need-put-pair-requires
 put-pair-requires c κs = search needs
 
 same-length : tie.Need-same-length
-same-length c = search needs
+same-length c = c .before .before .before .put-pair .kept .1 .1 .0
 
 returns : tie.Need-returns
 returns c =

@@ -9,13 +9,13 @@ use Rattle.session.proofs.replayed.Statement.{statement}
 use Rattle.session.proofs.replayed.Tie as tie
 
 replay-requires : tie.Need-replay-requires
-replay-requires c κs = search needs
+replay-requires c κs = tt
 
 put-outcome-requires : tie.Need-put-outcome-requires
 put-outcome-requires c κs = search needs
 
 same-length : tie.Need-same-length
-same-length c = search needs
+same-length c = c .before .before .before .put-outcome .kept .1 .0
 
 returns : tie.Need-returns
 returns c =

@@ -6,7 +6,7 @@ use Rattle.session.proofs.start.Statement.{statement}
 use Rattle.session.proofs.start.Tie as tie
 
 fresh-requires : tie.Need-fresh-requires
-fresh-requires c κs = search needs
+fresh-requires c κs = tt
 
 returns : tie.Need-returns
 returns c = ap held (c .fresh .ensures)

@@ -7,7 +7,7 @@ use Rattle.session.proofs.unfit.Statement.{statement}
 use Rattle.session.proofs.unfit.Tie as tie
 
 fresh-requires : tie.Need-fresh-requires
-fresh-requires c κs = search needs
+fresh-requires c κs = tt
 
 returns : tie.Need-returns
 returns c = ap (λ (s : State). withRegisters s (record { ier = 255; mcr = 0; lcr = 0; scr = 0 })) (c .fresh .ensures)
