@@ -4,13 +4,13 @@
 // before the next read; what is read of a line that has not ended is kept for it. Of a line longer
 // than any valid one no more is kept than shows that.
 use libc::STDIN_FILENO;
-use libc::STDOUT_FILENO;
-use protocol::lines;
-use protocol::session;
-use protocol::session::Session;
+use session::Session;
 ghost use mathlib.Core.Path.{_≡_};
 ghost use Prim.Native.Nat.{_≤_, _<_};
 ghost use lib.ListN.{length};
+ghost use Rattle.command.specs.Command.{mostNumbers};
+ghost use Rattle.numbers.specs.Numbers.{stateCount};
+ghost use Rattle.session.specs.Session.{longestAnswer};
 
 // Between two reads: the current state, the bytes kept at the start of the block, and whether to
 // go on.
@@ -20,89 +20,12 @@ struct Held {
     more: bool,
 }
 
-// What was answered of a block: the current state, the place after the last line answered, whether
-// there may be more, and whether the answers could be written.
-struct Part {
-    session: Session,
-    next: usize,
-    more: bool,
-    written: bool,
-}
-
-// Answers lines of a block from `from` on, as many as the buffer takes, and writes the answers.
-fn answer_some(
-    s: Session,
-    block: &[u8],
-    from: usize,
-    numbers: &mut [u32],
-    kept: &mut [u32],
-    out: &mut [u8],
-) -> Part
-    requires { ⌜ from ≤ length (now block) ⌝ }
-    requires { ⌜ length (now numbers) ≡ 1025 ⌝ }
-    requires { ⌜ length (now kept) ≡ 348 ⌝ }
-    ensures { λ r. ⌜ r .next ≤ length (now (block .entry)) ⌝ }
-{
-    let p = lines::answer_lines(s, block, from, numbers, kept, out);
-    let end = p.end;
-    let written = io::write_all(STDOUT_FILENO, &out[..end]);
-    let session = p.session;
-    Part {
-        session,
-        next: p.next,
-        more: p.full,
-        written,
-    }
-}
-
-// Answers all lines of a block, and answers where they end. A block has no more lines than bytes.
-fn answer_block(
-    s: Session,
-    block: &[u8],
-    numbers: &mut [u32],
-    kept: &mut [u32],
-    out: &mut [u8],
-) -> Part
-    requires { ⌜ length (now numbers) ≡ 1025 ⌝ }
-    requires { ⌜ length (now kept) ≡ 348 ⌝ }
-    ensures { λ r. ⌜ r .next ≤ length (now (block .entry)) ⌝ }
-{
-    let mut p = answer_some(s, block, 0, numbers, kept, out);
-    let mut turns = block.len();
-    while 0 < turns {
-        if !p.more {
-            return p;
-        }
-        if !p.written {
-            return p;
-        }
-        let t = p.session;
-        let next = p.next;
-        p = answer_some(t, block, next, numbers, kept, out);
-        turns -= 1;
-    }
-    p
-}
-
-// Answers the last line, if it lacks its newline.
-fn finish(t: Held, block: &[u8], numbers: &mut [u32], kept: &mut [u32], out: &mut [u8])
-    requires { ⌜ t .used ≤ length (now block) ⌝ }
-    requires { ⌜ length (now numbers) ≡ 1025 ⌝ }
-    requires { ⌜ length (now kept) ≡ 348 ⌝ }
-    requires { ⌜ 3828 ≤ length (now out) ⌝ }
-{
-    let used = t.used;
-    let s = t.session;
-    let end = lines::answer_last(s, &block[..used], numbers, kept, out);
-    io::write_all(STDOUT_FILENO, &out[..end]);
-}
-
 // Reads once, and answers what came.
 fn turn(t: Held, block: &mut [u8], numbers: &mut [u32], kept: &mut [u32], out: &mut [u8]) -> Held
     requires { ⌜ t .used ≤ length (now block) ⌝ }
-    requires { ⌜ length (now numbers) ≡ 1025 ⌝ }
-    requires { ⌜ length (now kept) ≡ 348 ⌝ }
-    requires { ⌜ 3828 ≤ length (now out) ⌝ }
+    requires { ⌜ length (now numbers) ≡ mostNumbers ⌝ }
+    requires { ⌜ length (now kept) ≡ stateCount ⌝ }
+    requires { ⌜ longestAnswer ≤ length (now out) ⌝ }
     ensures { λ r. ⌜ r .used ≤ length (now (block .exit)) ⌝ }
 {
     let used = t.used;
@@ -110,7 +33,7 @@ fn turn(t: Held, block: &mut [u8], numbers: &mut [u32], kept: &mut [u32], out: &
     let n = io::count(got, &block[used..]);
     let s = t.session;
     if n == 0 {
-        finish(t, block, numbers, kept, out);
+        blocks::finish(s, &block[..used], numbers, kept, out);
         return Held {
             session: s,
             used: 0,
@@ -118,7 +41,7 @@ fn turn(t: Held, block: &mut [u8], numbers: &mut [u32], kept: &mut [u32], out: &
         };
     }
     let end = used + n;
-    let p = answer_block(s, &block[..end], numbers, kept, out);
+    let p = blocks::answer_block(&block[..end], s, numbers, kept, out);
     let next = p.next;
     let left = lines::keep(block, next, end);
     let session = p.session;
@@ -132,9 +55,9 @@ fn turn(t: Held, block: &mut [u8], numbers: &mut [u32], kept: &mut [u32], out: &
 // Reads and answers until the input ends. A proved loop has to end, so it counts its turns down
 // from a number that no run uses up.
 fn serve(block: &mut [u8], numbers: &mut [u32], kept: &mut [u32], out: &mut [u8])
-    requires { ⌜ length (now numbers) ≡ 1025 ⌝ }
-    requires { ⌜ length (now kept) ≡ 348 ⌝ }
-    requires { ⌜ 3828 ≤ length (now out) ⌝ }
+    requires { ⌜ length (now numbers) ≡ mostNumbers ⌝ }
+    requires { ⌜ length (now kept) ≡ stateCount ⌝ }
+    requires { ⌜ longestAnswer ≤ length (now out) ⌝ }
 {
     let mut t = Held {
         session: session::start(),
@@ -153,8 +76,8 @@ fn serve(block: &mut [u8], numbers: &mut [u32], kept: &mut [u32], out: &mut [u8]
 
 fn main() {
     let mut block = [0u8; 65536];
-    let mut numbers = [0u32; 1025];
-    let mut kept = [0u32; 348];
+    let mut numbers = [0u32; command::MOST_NUMBERS];
+    let mut kept = [0u32; numbers::COUNT];
     let mut out = [0u8; 262144];
     serve(&mut block, &mut numbers, &mut kept, &mut out);
 }

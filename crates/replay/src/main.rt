@@ -3,5 +3,5 @@
 use libc::STDIN_FILENO;
 
 fn main() {
-    reader::replay(STDIN_FILENO);
+    replay_file::replay(STDIN_FILENO);
 }

@@ -7,31 +7,31 @@ use Rattle.calls.proofs.serve.Statement.{statement}
 use Rattle.calls.proofs.serve.Tie as tie
 
 abbrev Inv-loop : tie.InvT-loop
-Inv-loop block₀ numbers₀ kept₀ out₀ t₀ turns₀ block numbers kept out t turns = (length numbers ≡ 1025) × ((length kept ≡ 348) × ((length out ≡ length out₀) × ((length block ≡ length block₀) × (t .used ≤ length block))))
+Inv-loop block₀ numbers₀ kept₀ out₀ t₀ turns₀ block numbers kept out t turns = (length numbers ≡ length numbers₀) × ((length kept ≡ length kept₀) × ((length out ≡ length out₀) × ((length block ≡ length block₀) × (t .used ≤ length block))))
 
 abbrev μ-loop : tie.MeasureT-loop
 μ-loop block₀ numbers₀ kept₀ out₀ t₀ turns₀ block numbers kept out t turns = turns
 
 start-requires : tie.Need-start-requires Inv-loop μ-loop
-start-requires c κs = search needs
+start-requires c κs = tt
 
 loop-holds : tie.Need-loop-holds Inv-loop μ-loop
 loop-holds c = search needs
 
 same-length : tie.Need-same-length Inv-loop μ-loop
-same-length c = search needs
+same-length c = c .before .before .before .loop .inv .1 .1 .1 .0
 
 same-length-2 : tie.Need-same-length-2 Inv-loop μ-loop
-same-length-2 c = search needs
+same-length-2 c = c .before .before .before .loop .inv .0
 
 same-length-3 : tie.Need-same-length-3 Inv-loop μ-loop
-same-length-3 c = search needs
+same-length-3 c = c .before .before .before .loop .inv .1 .0
 
 same-length-4 : tie.Need-same-length-4 Inv-loop μ-loop
-same-length-4 c = search needs
+same-length-4 c = c .before .before .before .loop .inv .1 .1 .0
 
 returns : tie.Need-returns Inv-loop μ-loop
-returns c = search needs
+returns c = tt
 
 turn-requires : tie.Need-turn-requires Inv-loop μ-loop
 turn-requires c κs = search needs
@@ -54,19 +54,19 @@ loop-again c =
     )
 
 same-length-5 : tie.Need-same-length-5 Inv-loop μ-loop
-same-length-5 c = search needs
+same-length-5 c = c .before .loop .inv .1 .1 .1 .0
 
 same-length-6 : tie.Need-same-length-6 Inv-loop μ-loop
-same-length-6 c = search needs
+same-length-6 c = c .before .loop .inv .0
 
 same-length-7 : tie.Need-same-length-7 Inv-loop μ-loop
-same-length-7 c = search needs
+same-length-7 c = c .before .loop .inv .1 .0
 
 same-length-8 : tie.Need-same-length-8 Inv-loop μ-loop
-same-length-8 c = search needs
+same-length-8 c = c .before .loop .inv .1 .1 .0
 
 returns-2 : tie.Need-returns-2 Inv-loop μ-loop
-returns-2 c = search needs
+returns-2 c = tt
 
 pub serve-spec : {M : Type 1} → statement M
 serve-spec =

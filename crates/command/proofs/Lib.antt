@@ -1,0 +1,4 @@
+pub mod Commands
+pub mod Writing
+pub mod Loading
+pub mod Reading

@@ -1,0 +1,212 @@
+// What a line says: its command, by the table of the protocol, and the numbers beside it.
+use text::decimal;
+use text::decimal::Number;
+use text::words;
+ghost use mathlib.Core.Path.{_≡_};
+ghost use mathlib.Core.Bool.{false};
+ghost use mathlib.Core.List.{List, [], _∷_};
+ghost use Prim.Native.Nat.{ℕ, _≤_};
+ghost use lib.ListN.{length, take};
+ghost use Rattle.text.specs.Text.{text};
+ghost use Rattle.text.specs.Text.{same as «same-text»};
+ghost use Rattle.text.specs.Decimal.{numberOf};
+ghost use Rattle.text.specs.Words.{words as «words-of»};
+ghost use Rattle.command.specs.Command.{mostNumbers, numbersIn, valuesOf, table, lookUp, commandOf, beside, operandsOf};
+
+// The most numbers that a line has: a version and 1,024 records.
+pub const MOST_NUMBERS: usize = 1025;
+
+// A call that moves the current state by a step.
+pub enum Call {
+    Reset,
+    Read(u8),
+    Write(u8, u8),
+    Sin(u8),
+    Modem(u8),
+    Tick,
+    Ticks(u32),
+}
+
+// A line's command. The numbers of `load` stand beside it, and so do those of `replay`, whose
+// version and number of records it has.
+pub enum Command {
+    Fresh,
+    Load,
+    State,
+    Step(Call),
+    Pins,
+    Forecast,
+    Level(u32),
+    Run(u32),
+    Replay(u32, usize),
+    Bad,
+}
+
+// The command of a word with no number after it.
+fn bare(word: &[u8]) -> Command
+    ensures { λ r. ⌜ r ≡ lookUp table (now (word .entry)) [] ⌝ }
+    ensures { λ r. ⌜ beside r ≡ 0 ⌝ }
+{
+    if words::same(word, b"tick") {
+        return Command::Step(Call::Tick);
+    }
+    if words::same(word, b"pins") {
+        return Command::Pins;
+    }
+    if words::same(word, b"state") {
+        return Command::State;
+    }
+    if words::same(word, b"fresh") {
+        return Command::Fresh;
+    }
+    if words::same(word, b"reset") {
+        return Command::Step(Call::Reset);
+    }
+    if words::same(word, b"forecast") {
+        return Command::Forecast;
+    }
+    Command::Bad
+}
+
+// The command of a word and a number, which another word spells; `replay` is not looked for.
+fn with_number(word: &[u8], n: u32) -> Command
+    requires { ⌜ «same-text» (now word) (text "replay") ≡ false ⌝ }
+    ensures { λ r. ⌜ ((a : List ℕ) → numberOf a ≡ Number.Value n → r ≡ lookUp table (now (word .entry)) (a ∷ [])) ⌝ }
+    ensures { λ r. ⌜ beside r ≡ 0 ⌝ }
+{
+    if words::same(word, b"ticks") {
+        if n == 0 {
+            return Command::Bad;
+        }
+        return Command::Step(Call::Ticks(n));
+    }
+    if words::same(word, b"level") {
+        return Command::Level(n);
+    }
+    if words::same(word, b"run") {
+        return Command::Run(n);
+    }
+    if 255 < n {
+        return Command::Bad;
+    }
+    let b = n as u8;
+    if words::same(word, b"read") {
+        return Command::Step(Call::Read(b));
+    }
+    if words::same(word, b"sin") {
+        return Command::Step(Call::Sin(b));
+    }
+    if words::same(word, b"modem") {
+        return Command::Step(Call::Modem(b));
+    }
+    Command::Bad
+}
+
+// The command `write` with these numbers.
+fn write(numbers: &[u8]) -> Command
+    ensures { λ r. ⌜ r ≡ lookUp table (text "write") («words-of» (now (numbers .entry))) ⌝ }
+    ensures { λ r. ⌜ beside r ≡ 0 ⌝ }
+{
+    let end = words::word_end(numbers, 0);
+    if end == numbers.len() {
+        return Command::Bad;
+    }
+    let Number::Value(a) = decimal::number_of(&numbers[..end]) else {
+        return Command::Bad;
+    };
+    if 255 < a {
+        return Command::Bad;
+    }
+    let next = end + 1;
+    let Number::Value(b) = decimal::number_of(&numbers[next..]) else {
+        return Command::Bad;
+    };
+    if 255 < b {
+        return Command::Bad;
+    }
+    Command::Step(Call::Write(a as u8, b as u8))
+}
+
+// Reads the numbers of a line into `to`, and answers how many they are: 0 where one is no number, or
+// where they are more than it has places.
+fn read_numbers(numbers: &[u8], to: &mut [u32]) -> usize
+    ensures { λ r. ⌜ r ≡ numbersIn (length (now (to .entry))) («words-of» (now (numbers .entry))) ⌝ }
+    ensures { λ r. ⌜ r ≤ length (now (to .entry)) ⌝ }
+    ensures { λ r. ⌜ take r (now (to .exit)) ≡ take r (valuesOf («words-of» (now (numbers .entry)))) ⌝ }
+{
+    let mut at: usize = 0;
+    let mut i: usize = 0;
+    while i < to.len() {
+        let end = words::word_end(numbers, at);
+        let Number::Value(n) = decimal::number_of(&numbers[at..end]) else {
+            return 0;
+        };
+        to[i] = n;
+        i += 1;
+        if end == numbers.len() {
+            return i;
+        }
+        at = end + 1;
+    }
+    0
+}
+
+// The command `load` with these numbers, which are then in `to`.
+fn load(numbers: &[u8], to: &mut [u32]) -> Command
+    requires { ⌜ length (now to) ≡ mostNumbers ⌝ }
+    ensures { λ r. ⌜ r ≡ lookUp table (text "load") («words-of» (now (numbers .entry))) ⌝ }
+    ensures { λ r. ⌜ beside r ≤ mostNumbers ⌝ }
+    ensures { λ r. ⌜ take (beside r) (now (to .exit)) ≡ take (beside r) (valuesOf («words-of» (now (numbers .entry)))) ⌝ }
+{
+    if read_numbers(numbers, to) == numbers::COUNT {
+        return Command::Load;
+    }
+    Command::Bad
+}
+
+// The command `replay` with these numbers, which are then in `to`.
+fn replay(numbers: &[u8], to: &mut [u32]) -> Command
+    requires { ⌜ length (now to) ≡ mostNumbers ⌝ }
+    ensures { λ r. ⌜ r ≡ lookUp table (text "replay") («words-of» (now (numbers .entry))) ⌝ }
+    ensures { λ r. ⌜ beside r ≤ mostNumbers ⌝ }
+    ensures { λ r. ⌜ take (beside r) (now (to .exit)) ≡ take (beside r) (valuesOf («words-of» (now (numbers .entry)))) ⌝ }
+{
+    let n = read_numbers(numbers, to);
+    if n == 0 {
+        return Command::Bad;
+    }
+    let version = to[0];
+    if 65535 < version {
+        return Command::Bad;
+    }
+    Command::Replay(version, n - 1)
+}
+
+// The command of a line, which has no newline. The numbers that stand beside it are in `to`.
+pub fn command_of(line: &[u8], to: &mut [u32]) -> Command
+    requires { ⌜ length (now to) ≡ mostNumbers ⌝ }
+    ensures { λ r. ⌜ r ≡ commandOf (now (line .entry)) ⌝ }
+    ensures { λ r. ⌜ beside r ≤ mostNumbers ⌝ }
+    ensures { λ r. ⌜ take (beside r) (now (to .exit)) ≡ operandsOf (now (line .entry)) ⌝ }
+{
+    let end = words::word_end(line, 0);
+    let word = &line[..end];
+    if end == line.len() {
+        return bare(word);
+    }
+    let next = end + 1;
+    let numbers = &line[next..];
+    if words::same(word, b"write") {
+        return write(numbers);
+    }
+    if words::same(word, b"load") {
+        return load(numbers, to);
+    }
+    if words::same(word, b"replay") {
+        return replay(numbers, to);
+    }
+    match decimal::number_of(numbers) {
+        Number::Value(n) => with_number(word, n),
+        Number::Nothing => Command::Bad,
+    }
+}

@@ -1,0 +1,355 @@
+// The numbers of a state, in the protocol's order, and the state that such numbers make.
+//
+// A group of numbers stands after another: settings, transmit queue, frame, receive queue, receiver
+// and latches. Places count from 1.
+use device::Baud;
+use device::FifoControl;
+use device::Frame;
+use device::Inputs;
+use device::Latches;
+use device::Receiver;
+use device::Registers;
+use device::State;
+use flag::both;
+use queue::ByteQueue;
+use queue::Entry;
+use queue::EntryQueue;
+ghost use mathlib.Core.Path.{_≡_};
+ghost use mathlib.Core.List.{map};
+ghost use Prim.Native.Nat.{_+_, _*_, _%_, _≤_};
+ghost use lib.ListN.{length};
+ghost use Rattle.flag.specs.Flag.{allOf};
+ghost use Rattle.text.specs.Text.{Appended};
+ghost use Rattle.numbers.specs.Numbers.{stateCount, settingsNumbers, frameNumbers, entryNumbers, entriesNumbers, receiverNumbers, numbersOf, isByte, bytesIn, registersOf, fifoOf, transmitOf, entryOf, entriesOf, receiveOf, frameOf, receiverOf, latchesOf, stateOf};
+ghost use Rattle.numbers.specs.Numbers.{fits as «do-fit», low as «low-of»};
+
+// How many numbers stand before each group that follows the settings.
+const TRANSMIT: usize = 13;
+
+const FRAME: usize = TRANSMIT + 64;
+
+const RECEIVE: usize = FRAME + 4;
+
+const RECEIVER: usize = RECEIVE + 4 * 64;
+
+// How many numbers a state has.
+pub const COUNT: usize = RECEIVER + 11;
+
+// Puts numbers into out from `at` on.
+pub fn put(numbers: &[u32], out: &mut [u32], at: usize)
+    requires { ⌜ at + length (now numbers) ≤ length (now out) ⌝ }
+    ensures { λ _. ⌜ Appended (now (out .entry)) at (now (numbers .entry)) (now (out .exit)) (at + length (now (numbers .entry))) ⌝ }
+{
+    let mut i: usize = 0;
+    while i < numbers.len() {
+        out[at + i] = numbers[i];
+        i += 1;
+    }
+}
+
+// A byte as a number.
+pub fn wide(b: u8) -> u32
+    ensures { λ r. ⌜ r ≡ b ⌝ }
+{
+    b as u32
+}
+
+// Places 1..13: the registers, the FIFO's settings, the pins and the transmit count.
+fn settings_numbers(s: State) -> [u32; 13]
+    ensures { λ r. ⌜ r ≡ settingsNumbers s ⌝ }
+{
+    [
+        wide(s.registers.ier),
+        wide(s.registers.mcr),
+        wide(s.registers.lcr),
+        wide(s.registers.scr),
+        s.baud.divisor,
+        s.baud.k,
+        wide(s.fifo.enabled),
+        wide(s.fifo.size),
+        wide(s.fifo.dma),
+        wide(s.fifo.trigger),
+        wide(s.inputs.modem),
+        wide(s.inputs.sin),
+        s.tx.count,
+    ]
+}
+
+// Places 78..81: the frame now sent, and the receive count.
+fn frame_numbers(s: State) -> [u32; 4]
+    ensures { λ r. ⌜ r ≡ frameNumbers s ⌝ }
+{
+    [
+        s.frame.left,
+        wide(s.frame.byte),
+        wide(s.frame.format),
+        s.rx.count,
+    ]
+}
+
+// Places 338..348: the receiver and the latches.
+fn receiver_numbers(s: State) -> [u32; 11]
+    ensures { λ r. ⌜ r ≡ receiverNumbers s ⌝ }
+{
+    [
+        wide(s.receiver.phase),
+        s.receiver.position,
+        wide(s.receiver.format),
+        wide(s.receiver.samples),
+        wide(s.receiver.parity),
+        wide(s.latches.empty),
+        wide(s.latches.overrun),
+        wide(s.latches.timeout),
+        s.latches.idle,
+        wide(s.latches.changes),
+        wide(s.latches.hold),
+    ]
+}
+
+// Puts the places of the transmit queue into out from `at` on.
+fn put_bytes(bytes: [u8; 64], out: &mut [u32], at: usize)
+    requires { ⌜ at + 64 ≤ length (now out) ⌝ }
+    ensures { λ _. ⌜ Appended (now (out .entry)) at bytes (now (out .exit)) (at + 64) ⌝ }
+{
+    let mut i: usize = 0;
+    while i < 64 {
+        out[at + i] = wide(bytes[i]);
+        i += 1;
+    }
+}
+
+// An entry's numbers: byte, PE, FE, BI.
+fn entry_numbers(e: Entry) -> [u32; 4]
+    ensures { λ r. ⌜ r ≡ entryNumbers e ⌝ }
+{
+    [wide(e.byte), wide(e.pe), wide(e.fe), wide(e.bi)]
+}
+
+// Puts the places of the receive queue into out from `at` on.
+fn put_entries(entries: [Entry; 64], out: &mut [u32], at: usize)
+    requires { ⌜ at + 256 ≤ length (now out) ⌝ }
+    ensures { λ _. ⌜ Appended (now (out .entry)) at (entriesNumbers entries) (now (out .exit)) (at + 256) ⌝ }
+{
+    let mut i: usize = 0;
+    while i < 64 {
+        let e = entries[i];
+        let four = entry_numbers(e);
+        put(&four, out, at + 4 * i);
+        i += 1;
+    }
+}
+
+// Puts the numbers of a state into out.
+pub fn put_state(s: State, out: &mut [u32])
+    requires { ⌜ length (now out) ≡ stateCount ⌝ }
+    ensures { λ _. ⌜ now (out .exit) ≡ numbersOf s ⌝ }
+{
+    let settings = settings_numbers(s);
+    put(&settings, out, 0);
+    let tx = s.tx;
+    let bytes = tx.bytes;
+    put_bytes(bytes, out, TRANSMIT);
+    let frame = frame_numbers(s);
+    put(&frame, out, FRAME);
+    let rx = s.rx;
+    let entries = rx.entries;
+    put_entries(entries, out, RECEIVE);
+    let receiver = receiver_numbers(s);
+    put(&receiver, out, RECEIVER);
+}
+
+// Whether every number is a byte.
+fn all_bytes(n: &[u32]) -> bool
+    ensures { λ r. ⌜ r ≡ allOf isByte (now (n .entry)) ⌝ }
+{
+    let mut i: usize = 0;
+    while i < n.len() {
+        if 255 < n[i] {
+            return false;
+        }
+        i += 1;
+    }
+    true
+}
+
+// Whether the numbers at the places a to b are bytes.
+fn bytes_in(n: &[u32], a: usize, b: usize) -> bool
+    requires { ⌜ 1 ≤ a ⌝ }
+    requires { ⌜ a ≤ b ⌝ }
+    requires { ⌜ b ≤ length (now n) ⌝ }
+    ensures { λ r. ⌜ r ≡ bytesIn a b (now (n .entry)) ⌝ }
+{
+    let from = a - 1;
+    all_bytes(&n[from..b])
+}
+
+// Whether each number fits its place's type.
+pub fn fits(n: &[u32]) -> bool
+    requires { ⌜ length (now n) ≡ stateCount ⌝ }
+    ensures { λ r. ⌜ r ≡ «do-fit» (now (n .entry)) ⌝ }
+{
+    let latches = bytes_in(n, 347, 348);
+    let receiver = both(bytes_in(n, 340, 345), latches);
+    let receive = both(bytes_in(n, 82, 338), receiver);
+    let frame = both(bytes_in(n, 79, 80), receive);
+    let transmit = both(bytes_in(n, 14, 77), frame);
+    let settings = both(bytes_in(n, 7, 12), transmit);
+    both(bytes_in(n, 1, 4), settings)
+}
+
+// The registers.
+fn registers_of(n: &[u32]) -> Registers
+    requires { ⌜ length (now n) ≡ stateCount ⌝ }
+    ensures { λ r. ⌜ r ≡ registersOf (now (n .entry)) ⌝ }
+{
+    Registers {
+        ier: (n[0] % 256) as u8,
+        mcr: (n[1] % 256) as u8,
+        lcr: (n[2] % 256) as u8,
+        scr: (n[3] % 256) as u8,
+    }
+}
+
+// The FIFO's settings.
+fn fifo_of(n: &[u32]) -> FifoControl
+    requires { ⌜ length (now n) ≡ stateCount ⌝ }
+    ensures { λ r. ⌜ r ≡ fifoOf (now (n .entry)) ⌝ }
+{
+    FifoControl {
+        enabled: (n[6] % 256) as u8,
+        size: (n[7] % 256) as u8,
+        dma: (n[8] % 256) as u8,
+        trigger: (n[9] % 256) as u8,
+    }
+}
+
+// The bytes of the transmit queue's places.
+fn bytes_of(n: &[u32]) -> [u8; 64]
+    requires { ⌜ length (now n) ≡ 64 ⌝ }
+    ensures { λ r. ⌜ r ≡ map «low-of» (now (n .entry)) ⌝ }
+{
+    let mut bytes = [0u8; 64];
+    let mut i: usize = 0;
+    while i < 64 {
+        bytes[i] = (n[i] % 256) as u8;
+        i += 1;
+    }
+    bytes
+}
+
+// The transmit queue.
+fn transmit_of(n: &[u32]) -> ByteQueue
+    requires { ⌜ length (now n) ≡ stateCount ⌝ }
+    ensures { λ r. ⌜ r ≡ transmitOf (now (n .entry)) ⌝ }
+{
+    ByteQueue {
+        bytes: bytes_of(&n[TRANSMIT..FRAME]),
+        count: n[12],
+    }
+}
+
+// The entry of the first four numbers.
+fn entry_of(n: &[u32]) -> Entry
+    requires { ⌜ 4 ≤ length (now n) ⌝ }
+    ensures { λ r. ⌜ r ≡ entryOf (now (n .entry)) ⌝ }
+{
+    Entry {
+        byte: (n[0] % 256) as u8,
+        pe: (n[1] % 256) as u8,
+        fe: (n[2] % 256) as u8,
+        bi: (n[3] % 256) as u8,
+    }
+}
+
+// The entries of the receive queue's places.
+fn entries_of(n: &[u32]) -> [Entry; 64]
+    requires { ⌜ length (now n) ≡ 256 ⌝ }
+    ensures { λ r. ⌜ r ≡ entriesOf 64 (now (n .entry)) ⌝ }
+{
+    let e = queue::entries::none();
+    let mut entries = [e; 64];
+    let mut i: usize = 0;
+    while i < 64 {
+        let at = 4 * i;
+        let x = entry_of(&n[at..]);
+        entries[i] = x;
+        i += 1;
+    }
+    entries
+}
+
+// The receive queue.
+fn receive_of(n: &[u32]) -> EntryQueue
+    requires { ⌜ length (now n) ≡ stateCount ⌝ }
+    ensures { λ r. ⌜ r ≡ receiveOf (now (n .entry)) ⌝ }
+{
+    EntryQueue {
+        entries: entries_of(&n[RECEIVE..RECEIVER]),
+        count: n[80],
+    }
+}
+
+// The frame now sent.
+fn frame_of(n: &[u32]) -> Frame
+    requires { ⌜ length (now n) ≡ stateCount ⌝ }
+    ensures { λ r. ⌜ r ≡ frameOf (now (n .entry)) ⌝ }
+{
+    Frame {
+        left: n[77],
+        byte: (n[78] % 256) as u8,
+        format: (n[79] % 256) as u8,
+    }
+}
+
+// The receiver.
+fn receiver_of(n: &[u32]) -> Receiver
+    requires { ⌜ length (now n) ≡ stateCount ⌝ }
+    ensures { λ r. ⌜ r ≡ receiverOf (now (n .entry)) ⌝ }
+{
+    Receiver {
+        phase: (n[337] % 256) as u8,
+        format: (n[339] % 256) as u8,
+        samples: (n[340] % 256) as u8,
+        parity: (n[341] % 256) as u8,
+        position: n[338],
+    }
+}
+
+// The latches.
+fn latches_of(n: &[u32]) -> Latches
+    requires { ⌜ length (now n) ≡ stateCount ⌝ }
+    ensures { λ r. ⌜ r ≡ latchesOf (now (n .entry)) ⌝ }
+{
+    Latches {
+        empty: (n[342] % 256) as u8,
+        overrun: (n[343] % 256) as u8,
+        timeout: (n[344] % 256) as u8,
+        changes: (n[346] % 256) as u8,
+        hold: (n[347] % 256) as u8,
+        idle: n[345],
+    }
+}
+
+// The state of these numbers, each cut to its place's type.
+pub fn state_of(n: &[u32]) -> State
+    requires { ⌜ length (now n) ≡ stateCount ⌝ }
+    ensures { λ r. ⌜ r ≡ stateOf (now (n .entry)) ⌝ }
+{
+    State {
+        registers: registers_of(n),
+        baud: Baud {
+            divisor: n[4],
+            k: n[5],
+        },
+        fifo: fifo_of(n),
+        inputs: Inputs {
+            modem: (n[10] % 256) as u8,
+            sin: (n[11] % 256) as u8,
+        },
+        tx: transmit_of(n),
+        frame: frame_of(n),
+        rx: receive_of(n),
+        receiver: receiver_of(n),
+        latches: latches_of(n),
+    }
+}

@@ -1,0 +1,27 @@
+-- The state and the two numbers of the run.
+use Rattle.text.proofs.Texts.{appended-as}
+use Rattle.text.specs.Decimal.{lineOf}
+use Rattle.reply.specs.Reply.{runNumbers}
+use Rattle.session.specs.Session.{moved}
+use Rattle.device.specs.declared.Ran.{Ran}
+use mathlib.Core.Path.{ap}
+use borrow.Author.Needs.{needs}
+use Rattle.session.proofs.ran.Statement.{statement}
+use Rattle.session.proofs.ran.Tie as tie
+
+run-requires : tie.Need-run-requires
+run-requires c κs = tt
+
+put-pair-requires : tie.Need-put-pair-requires
+put-pair-requires c κs = search needs
+
+same-length : tie.Need-same-length
+same-length c = c .before .before .before .put-pair .kept .1 .1 .0
+
+returns : tie.Need-returns
+returns c =
+    let e = c .before .before .before .before .before .run .ensures .0 in
+    (ap (λ (a : Ran). moved (c .before .before .before .before .before .before .before .before .args .s) (a .state)) e, appended-as (ap (λ (a : Ran). lineOf (runNumbers a)) e) (c .before .before .before .put-pair .ensures))
+
+pub ran-spec : {M : Type 1} → statement M
+ran-spec = tie.close (tie.spec run-requires put-pair-requires same-length returns)

@@ -1,0 +1,26 @@
+-- The state and the outcome of the replay.
+use Rattle.text.proofs.Texts.{appended-as}
+use Rattle.outcome.specs.Outcome.{outcomeLine}
+use Rattle.session.specs.Session.{moved}
+use Rattle.capture.specs.declared.Replayed.{Replayed}
+use mathlib.Core.Path.{ap}
+use borrow.Author.Needs.{needs}
+use Rattle.session.proofs.replayed.Statement.{statement}
+use Rattle.session.proofs.replayed.Tie as tie
+
+replay-requires : tie.Need-replay-requires
+replay-requires c κs = tt
+
+put-outcome-requires : tie.Need-put-outcome-requires
+put-outcome-requires c κs = search needs
+
+same-length : tie.Need-same-length
+same-length c = c .before .before .before .put-outcome .kept .1 .0
+
+returns : tie.Need-returns
+returns c =
+    let e = c .before .before .before .before .before .replay .ensures .0 in
+    (ap (λ (a : Replayed). moved (c .before .before .before .before .before .before .before .before .before .args .s) (a .state)) e, appended-as (ap (λ (a : Replayed). outcomeLine (a .outcome)) e) (c .before .before .before .put-outcome .ensures))
+
+pub replayed-spec : {M : Type 1} → statement M
+replayed-spec = tie.close (tie.spec replay-requires put-outcome-requires same-length returns)

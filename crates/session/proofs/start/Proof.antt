@@ -1,0 +1,15 @@
+-- The fresh state.
+use Rattle.session.specs.Session.{held}
+use mathlib.Core.Path.{ap}
+use borrow.Author.Needs.{needs}
+use Rattle.session.proofs.start.Statement.{statement}
+use Rattle.session.proofs.start.Tie as tie
+
+fresh-requires : tie.Need-fresh-requires
+fresh-requires c κs = tt
+
+returns : tie.Need-returns
+returns c = ap held (c .fresh .ensures)
+
+pub start-spec : {M : Type 1} → statement M
+start-spec = tie.close (tie.spec fresh-requires returns)

@@ -1,0 +1,5 @@
+pub mod Tests
+pub mod Texts
+pub mod Copies
+pub mod Decimals
+pub mod Splitting
