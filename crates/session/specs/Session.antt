@@ -4,7 +4,7 @@ use mathlib.Core.Bool.{true, false, cond}
 use mathlib.Core.List.{List, [], _∷_}
 use lib.ListN.{drop}
 use Rattle.device.specs.declared.State.{State}
-use Rattle.device.specs.State.{freshOf, withRegisters}
+use Rattle.device.specs.State.{freshOf, withRegisters, withIer}
 use Rattle.device.specs.Calls.{pinsOf}
 use Rattle.device.specs.Forecast.{forecastOf, levelOf, runOf}
 use Rattle.capture.specs.declared.Replayed.{Replayed}
@@ -25,7 +25,7 @@ held s = record { state = s; fits = true }
 
 -- the state that stands for numbers which do not fit: every call refuses it
 abbrev pub unfitState : State
-unfitState = withRegisters freshOf (record { ier = 255; mcr = 0; lcr = 0; scr = 0 })
+unfitState = withRegisters freshOf (withIer (freshOf .registers) 255)
 
 -- after `load` of these numbers
 unfoldable pub loadedOf : List ℕ → Session

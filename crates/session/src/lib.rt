@@ -4,7 +4,6 @@
 // buffer. Nothing here reads or writes a file.
 use command::Call;
 use command::Command;
-use device::Registers;
 use device::State;
 use text::buffer;
 use text::decimal;
@@ -54,13 +53,7 @@ fn unfit() -> State
     ensures { λ r. ⌜ r ≡ unfitState ⌝ }
 {
     let mut s = uart::fresh();
-    let r = Registers {
-        ier: 255,
-        mcr: 0,
-        lcr: 0,
-        scr: 0,
-    };
-    s.registers = r;
+    s.registers.ier = 255;
     s
 }
 

@@ -15,6 +15,7 @@ use sheet::answer;
 use sheet::limits;
 ghost use mathlib.Core.Path.{_≡_};
 ghost use Prim.Native.Nat.{ℕ, _≤_};
+ghost use lib.Dec.{leb};
 ghost use Rattle.frame.specs.Format.{frameLength};
 ghost use Rattle.device.specs.State.{freshOf};
 ghost use Rattle.device.specs.Pins.{outputs as «outputs-of», noOutputs};
@@ -53,12 +54,20 @@ fn answered(t: State, byte: u8) -> Answer
     requires { ⌜ t .frame .left ≤ frameLength (t .frame .format) ⌝ }
     ensures { λ r. ⌜ r ≡ record { number = 0; byte = byte; outputs = «outputs-of» t; state = t } ⌝ }
 {
+    let number = answer::DONE;
     Answer {
-        number: answer::DONE,
+        number,
         byte,
         outputs: outputs(t),
         state: t,
     }
+}
+
+// Whether a register has this address.
+fn is_register(address: u8) -> bool
+    ensures { λ r. ⌜ r ≡ leb address 7 ⌝ }
+{
+    address <= limits::ADDRESS_MOST
 }
 
 // The fresh state.
@@ -85,7 +94,7 @@ pub fn read(s: State, address: u8) -> Answer
     if !well_formed(s) {
         return refused(answer::MALFORMED, s);
     }
-    if limits::ADDRESS_MOST < address {
+    if !is_register(address) {
         return refused(answer::BAD_ADDRESS, s);
     }
     let r = step::read(s, address);
@@ -100,7 +109,7 @@ pub fn write(s: State, address: u8, byte: u8) -> Answer
     if !well_formed(s) {
         return refused(answer::MALFORMED, s);
     }
-    if limits::ADDRESS_MOST < address {
+    if !is_register(address) {
         return refused(answer::BAD_ADDRESS, s);
     }
     answered(step::write(s, address, byte), 0)

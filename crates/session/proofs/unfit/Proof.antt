@@ -1,6 +1,6 @@
 -- The fresh state with one register out of range.
 use Rattle.device.specs.declared.State.{State}
-use Rattle.device.specs.State.{withRegisters}
+use Rattle.device.specs.State.{withRegisters, withIer}
 use mathlib.Core.Path.{ap}
 use borrow.Author.Needs.{needs}
 use Rattle.session.proofs.unfit.Statement.{statement}
@@ -10,7 +10,7 @@ fresh-requires : tie.Need-fresh-requires
 fresh-requires c κs = tt
 
 returns : tie.Need-returns
-returns c = ap (λ (s : State). withRegisters s (record { ier = 255; mcr = 0; lcr = 0; scr = 0 })) (c .fresh .ensures)
+returns c = ap (λ (s : State). withRegisters s (withIer (s .registers) 255)) (c .fresh .ensures)
 
 pub unfit-spec : {M : Type 1} → statement M
 unfit-spec = tie.close (tie.spec fresh-requires returns)

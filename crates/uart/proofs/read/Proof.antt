@@ -6,7 +6,7 @@ use Rattle.invariant.proofs.Settled.{sound-of}
 use Rattle.invariant.proofs.Registers.{read-sound}
 use Rattle.queue.proofs.Laws.{length-mapped}
 use mathlib.Core.Path.{sym, _∙_}
-use borrow.Author.Tests.{le-leb, lt-leb, not-true, not-false}
+use borrow.Author.Tests.{not-true, not-false}
 use borrow.Author.Needs.{needs}
 use Rattle.uart.proofs.read.Statement.{statement}
 use Rattle.uart.proofs.read.Tie as tie
@@ -24,26 +24,29 @@ returns : tie.Need-returns
 unfolding readOf
 returns c = rw (c .refused .ensures) (simp (sym (c .before .before .well-formed .ensures) ∙ not-true _ (c .before .if1 .taken)))
 
+is-register-requires : tie.Need-is-register-requires
+is-register-requires c κs = search needs
+
 refused-requires-2 : tie.Need-refused-requires-2
 refused-requires-2 c κs = search needs
 
 returns-2 : tie.Need-returns-2
 unfolding readOf
-returns-2 c = rw (c .refused2 .ensures) (simp (sym (c .before .before .before .well-formed .ensures) ∙ not-false _ (c .before .before .if1 .left), lt-leb _ _ (c .before .if2 .taken)))
+returns-2 c = rw (c .refused2 .ensures) (simp (sym (c .before .before .before .before .well-formed .ensures) ∙ not-false _ (c .before .before .before .if1 .left), sym (c .before .before .is-register .ensures) ∙ not-true _ (c .before .if2 .taken)))
 
 read-requires : tie.Need-read-requires
-read-requires c κs = sym (c .before .before .well-formed .ensures) ∙ not-false _ (c .before .if1 .left)
+read-requires c κs = sym (c .before .before .before .well-formed .ensures) ∙ not-false _ (c .before .before .if1 .left)
 
 answered-requires : tie.Need-answered-requires
 unfolding settled
 answered-requires c κs =
-    let a = c .before .before .before .before .before in
-    let w = sound-of (a .args .s) (places a) (good-of (a .args .s) (sym (c .before .before .before .before .well-formed .ensures) ∙ not-false _ (c .before .before .before .if1 .left))) in
+    let a = c .before .before .before .before .before .before in
+    let w = sound-of (a .args .s) (places a) (good-of (a .args .s) (sym (c .before .before .before .before .before .well-formed .ensures) ∙ not-false _ (c .before .before .before .before .if1 .left))) in
     rw (c .before .read .ensures) (read-sound (a .args .s) (a .args .address) w .transmit .frame .left-most)
 
 returns-3 : tie.Need-returns-3
 unfolding readOf done
-returns-3 c = rw (c .answered .ensures, c .before .before .read .ensures) (simp (sym (c .before .before .before .before .before .well-formed .ensures) ∙ not-false _ (c .before .before .before .before .if1 .left), le-leb _ _ (c .before .before .before .if2 .left)))
+returns-3 c = rw (c .answered .ensures, c .before .before .read .ensures) (simp (sym (c .before .before .before .before .before .before .well-formed .ensures) ∙ not-false _ (c .before .before .before .before .before .if1 .left), sym (c .before .before .before .before .is-register .ensures) ∙ not-false _ (c .before .before .before .if2 .left)))
 
 pub read-spec : {M : Type 1} → statement M
 read-spec =
@@ -52,6 +55,7 @@ read-spec =
     well-formed-requires
     refused-requires
     returns
+    is-register-requires
     refused-requires-2
     returns-2
     read-requires

@@ -7,7 +7,7 @@ use Rattle.invariant.proofs.Registers.{write-sound}
 use Rattle.queue.proofs.Laws.{length-mapped}
 use Prim.Native.Nat.{_≤_}
 use mathlib.Core.Path.{sym, _∙_}
-use borrow.Author.Tests.{le-leb, lt-leb, not-true, not-false}
+use borrow.Author.Tests.{not-true, not-false}
 use borrow.Author.Needs.{needs}
 use Rattle.uart.proofs.write.Statement.{statement}
 use Rattle.uart.proofs.write.Tie as tie
@@ -25,12 +25,15 @@ returns : tie.Need-returns
 unfolding writeOf
 returns c = rw (c .refused .ensures) (simp (sym (c .before .before .well-formed .ensures) ∙ not-true _ (c .before .if1 .taken)))
 
+is-register-requires : tie.Need-is-register-requires
+is-register-requires c κs = search needs
+
 refused-requires-2 : tie.Need-refused-requires-2
 refused-requires-2 c κs = search needs
 
 returns-2 : tie.Need-returns-2
 unfolding writeOf
-returns-2 c = rw (c .refused2 .ensures) (simp (sym (c .before .before .before .well-formed .ensures) ∙ not-false _ (c .before .before .if1 .left), lt-leb _ _ (c .before .if2 .taken)))
+returns-2 c = rw (c .refused2 .ensures) (simp (sym (c .before .before .before .before .well-formed .ensures) ∙ not-false _ (c .before .before .before .if1 .left), sym (c .before .before .is-register .ensures) ∙ not-true _ (c .before .if2 .taken)))
 
 write-requires : tie.Need-write-requires
 write-requires c κs = search needs
@@ -38,14 +41,14 @@ write-requires c κs = search needs
 answered-requires : tie.Need-answered-requires
 unfolding settled
 answered-requires c κs =
-    let a = c .before .before .before .before in
-    let w = sound-of (a .args .s) (places a) (good-of (a .args .s) (sym (c .before .before .before .well-formed .ensures) ∙ not-false _ (c .before .before .if1 .left))) in
+    let a = c .before .before .before .before .before in
+    let w = sound-of (a .args .s) (places a) (good-of (a .args .s) (sym (c .before .before .before .before .well-formed .ensures) ∙ not-false _ (c .before .before .before .if1 .left))) in
     let byte : a .args .byte ≤ 255 = search needs in
     rw (c .write .ensures) (write-sound (a .args .s) (a .args .address) (a .args .byte) byte w .transmit .frame .left-most)
 
 returns-3 : tie.Need-returns-3
 unfolding writeOf done
-returns-3 c = rw (c .answered .ensures, c .before .write .ensures) (simp (sym (c .before .before .before .before .well-formed .ensures) ∙ not-false _ (c .before .before .before .if1 .left), le-leb _ _ (c .before .before .if2 .left)))
+returns-3 c = rw (c .answered .ensures, c .before .write .ensures) (simp (sym (c .before .before .before .before .before .well-formed .ensures) ∙ not-false _ (c .before .before .before .before .if1 .left), sym (c .before .before .before .is-register .ensures) ∙ not-false _ (c .before .before .if2 .left)))
 
 pub write-spec : {M : Type 1} → statement M
 write-spec =
@@ -54,6 +57,7 @@ write-spec =
     well-formed-requires
     refused-requires
     returns
+    is-register-requires
     refused-requires-2
     returns-2
     write-requires
