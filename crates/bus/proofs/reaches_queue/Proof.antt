@@ -1,5 +1,4 @@
 -- The tests are the definition's.
-use Prim.Native.Nat.{_-_}
 use borrow.Author.Tests.{ne-eqb}
 use borrow.Author.Needs.{needs}
 use Rattle.bus.proofs.reaches_queue.Statement.{statement}

@@ -1,7 +1,6 @@
 -- Each arm is the definition's at that address; THR and FCR are left out.
 use Rattle.device.specs.Lcr.{divisorAccess}
 use Rattle.device.specs.Calls.{writeRegister}
-use Prim.Native.Nat.{zero, _-_}
 use mathlib.Core.Path.{_≡_, sym, _∙_}
 use mathlib.Core.Bool.{true}
 use borrow.Author.Tests.{ne-eqb, not-false}
@@ -43,18 +42,12 @@ returns-7 c = simp (c .before .match .keys6, c .numbers-of2 .ensures)
 returns-8 : tie.Need-returns-8
 unfolding writeRegister
 returns-8 c = let r = c .before .match .rest in
-    let zero = ne-eqb _ _ (r .0 .0 .0 .0 .0 .1) in
-    simp (zero, simp zero at (c .before .before .pre), ne-eqb, r .1, r .0 .1, r .0 .0 .1, r .0 .0 .0 .1, r .0 .0 .0 .0 .1, c .write4 .ensures)
+    let nonzero = ne-eqb _ _ (r .0 .0 .0 .0 .0 .1) in
+    simp (nonzero, simp nonzero at (c .before .before .pre), ne-eqb, r .1, r .0 .1, r .0 .0 .1, r .0 .0 .0 .1, r .0 .0 .0 .0 .1, c .write4 .ensures)
 
 pub write-numbers-spec : {M : Type 1} → statement M
 write-numbers-spec =
     tie.close
-    (tie.spec (λ c κs. search needs) (λ c κs. search needs) (λ c κs. search needs) (λ c κs. search needs) (λ c κs. search needs) (λ c κs. search needs) (λ c κs. search needs) (λ c κs. search needs) (λ c κs. search needs)
-    returns
-    returns-2
-    returns-3
-    returns-4
-    returns-5
-    returns-6
-    returns-7
-    returns-8)
+    (tie.spec (λ c κs. search needs) (λ c κs. search needs) (λ c κs. search needs) (λ c κs. search needs)
+    (λ c κs. search needs) (λ c κs. search needs) (λ c κs. search needs) (λ c κs. search needs) (λ c κs. search needs)
+    returns returns-2 returns-3 returns-4 returns-5 returns-6 returns-7 returns-8)

@@ -1,7 +1,6 @@
 -- What reaches a queue is THR or FCR.
 use Rattle.device.specs.Lcr.{divisorAccess}
 use Rattle.device.specs.Calls.{writeRegister}
-use Prim.Native.Nat.{_-_}
 use mathlib.Core.Path.{_≡_}
 use mathlib.Core.Bool.{false}
 use borrow.Author.Tests.{ne-eqb, eqb-true, not-true}

@@ -1,6 +1,5 @@
 -- With the latch clear there is nothing to clear.
 use Rattle.registers.proofs.Laws.{iir-kept}
-use Prim.Native.Nat.{_-_}
 use borrow.Author.Tests.{eqb-true, not-false}
 use Rattle.registers.proofs.iir.read_changes.Statement.{statement}
 use Rattle.registers.proofs.iir.read_changes.Tie as tie

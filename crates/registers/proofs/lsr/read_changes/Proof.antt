@@ -2,18 +2,11 @@
 use Rattle.queue.specs.declared.Entry.{Entry}
 use mathlib.Core.Bool.{true≢false}
 use Rattle.registers.proofs.Laws.{lsr-kept}
-use Prim.Native.Nat.{_-_}
 use mathlib.Core.Path.{sym, ap, _∙_}
-use mathlib.Core.Bool.{true, false}
-use lib.ListN.{set}
 use borrow.Author.Tests.{eqb-true, not-false}
 use borrow.Author.Needs.{needs}
 use Rattle.registers.proofs.lsr.read_changes.Statement.{statement}
 use Rattle.registers.proofs.lsr.read_changes.Tie as tie
-use Rattle.registers.proofs.rbr.oldest.Reads as oldest-reads
-
-oldest-requires : tie.Need-oldest-requires
-oldest-requires c κs = search needs
 
 returns : tie.Need-returns
 returns c = λ e. absurd (true≢false e)
@@ -33,4 +26,4 @@ returns-4 c = λ e.
     (sym (ap (λ (x : Entry). x .bi) same) ∙ eqb-true _ _ (not-false _ e))
 
 pub read-changes-spec : {M : Type 1} → statement M
-read-changes-spec = tie.close (tie.spec oldest-requires returns returns-2 returns-3 returns-4)
+read-changes-spec = tie.close (tie.spec (λ c κs. search needs) returns returns-2 returns-3 returns-4)

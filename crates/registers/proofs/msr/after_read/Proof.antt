@@ -1,6 +1,5 @@
 -- The change bits are 0.
 use Rattle.device.specs.Msr.{msrRead}
-use Prim.Native.Nat.{_-_}
 use mathlib.Core.Path.{refl}
 use Rattle.registers.proofs.msr.after_read.Statement.{statement}
 use Rattle.registers.proofs.msr.after_read.Tie as tie

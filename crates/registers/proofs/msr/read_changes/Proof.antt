@@ -1,7 +1,5 @@
 -- With no change bit set there is nothing to clear.
 use Rattle.registers.proofs.Laws.{msr-kept}
-use Prim.Native.Nat.{_-_}
-use lib.ListN.{set}
 use borrow.Author.Tests.{eqb-true, not-false}
 use Rattle.registers.proofs.msr.read_changes.Statement.{statement}
 use Rattle.registers.proofs.msr.read_changes.Tie as tie

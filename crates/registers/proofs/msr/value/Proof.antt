@@ -1,15 +1,10 @@
 -- The levels are at most 15, so the byte fits.
 use Rattle.registers.proofs.Laws.{levels-most}
 use Rattle.device.specs.Msr.{msrRead}
-use Prim.Native.Nat.{_-_}
 use native.Mathlib.Omega.{arith}
 use borrow.Author.Needs.{needs}
 use Rattle.registers.proofs.msr.value.Statement.{statement}
 use Rattle.registers.proofs.msr.value.Tie as tie
-use Rattle.device.proofs.modem.effective_levels.Reads as effective-levels-reads
-
-effective-levels-requires : tie.Need-effective-levels-requires
-effective-levels-requires c κs = search needs
 
 mul-result : tie.Need-mul-result
 mul-result c = let s = c .before .args .s in
@@ -24,4 +19,4 @@ unfolding msrRead
 returns c = rw (c .before .effective-levels .ensures)
 
 pub value-spec : {M : Type 1} → statement M
-value-spec = tie.close (tie.spec effective-levels-requires mul-result add-result returns)
+value-spec = tie.close (tie.spec (λ c κs. search needs) mul-result add-result returns)

@@ -1,27 +1,17 @@
 -- Empty, the state stays; else the oldest entry is taken.
 use Rattle.device.specs.Rbr.{rbrRead}
-use Prim.Native.Nat.{_-_}
-use lib.ListN.{take}
 use borrow.Author.Tests.{eq-eqb, ne-eqb}
 use borrow.Author.Needs.{needs}
 use Rattle.registers.proofs.rbr.after_read.Statement.{statement}
 use Rattle.registers.proofs.rbr.after_read.Tie as tie
-use Rattle.queue.proofs.entries.take.Reads as take-reads
-use Rattle.registers.proofs.rbr.restart_idle.Reads as restart-idle-reads
 
 returns : tie.Need-returns
 unfolding rbrRead
 returns c = simp (eq-eqb _ _ (c .if1 .taken))
-
-take-requires : tie.Need-take-requires
-take-requires c κs = search needs
-
-restart-idle-requires : tie.Need-restart-idle-requires
-restart-idle-requires c κs = search needs
 
 returns-2 : tie.Need-returns-2
 unfolding rbrRead
 returns-2 c = simp (ne-eqb _ _ (c .before .before .if1 .left), c .restart-idle .ensures, c .before .take .ensures)
 
 pub after-read-spec : {M : Type 1} → statement M
-after-read-spec = tie.close (tie.spec returns take-requires restart-idle-requires returns-2)
+after-read-spec = tie.close (tie.spec returns (λ c κs. search needs) (λ c κs. search needs) returns-2)

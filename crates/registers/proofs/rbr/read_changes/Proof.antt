@@ -1,6 +1,5 @@
 -- Empty, the state stays.
 use Rattle.registers.proofs.Laws.{rbr-kept}
-use Prim.Native.Nat.{_-_}
 use borrow.Author.Tests.{not-false}
 use Rattle.registers.proofs.rbr.read_changes.Statement.{statement}
 use Rattle.registers.proofs.rbr.read_changes.Tie as tie
