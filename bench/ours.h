@@ -78,7 +78,7 @@ static uint32_t device_run(struct device *d, uint32_t n)
     return r.number + r.used;
 }
 
-/* The state as the 348 numbers of the text protocol. */
+/* The state as the numbers of the text protocol. */
 static void device_places(const struct device *d, uint32_t *p)
 {
     const struct uart_state *s = &d->state;

@@ -74,7 +74,7 @@ static uint32_t device_run(struct device *d, uint32_t n)
     return v.number + v.value;
 }
 
-/* The state as the 348 numbers of the text protocol: it is kept in that order. */
+/* The state as the numbers of the text protocol: it is kept in that order. */
 static void device_places(const struct device *d, uint32_t *p)
 {
     memcpy(p, &d->state, sizeof d->state);

@@ -1,7 +1,7 @@
 /*
  * The work that both models are given. DEVICE names the header that adapts one of them.
  * A line for each case: its name, nanoseconds for each call or tick, and a sum over every answer
- * and the 348 numbers of the state at the end, by which the two are held against each other.
+ * and the numbers of the state at the end, by which the two are held against each other.
  */
 #define _POSIX_C_SOURCE 200809L
 

@@ -14,7 +14,7 @@
 #define MOST_NUMBERS (1u + MOST_WORDS)
 /* The longest valid line is `replay`, a version and 1,024 times a space and ten digits. */
 #define LONGEST_LINE (sizeof "replay 65535" - 1u + MOST_WORDS * 11u)
-/* The longest answer is 348 numbers, a space or the newline after each. */
+/* The longest answer is the numbers of a state, a space or the newline after each. */
 #define LONGEST_ANSWER (UART_STATE_PLACES * 11u)
 #define MOST_DIGITS 10u
 
@@ -95,7 +95,7 @@ static void call_fresh(void)
     put_done();
 }
 
-/* The state is 348 numbers of 32 bits without gaps, in the order of the protocol. */
+/* The state is numbers of 32 bits without gaps, in the order of the protocol. */
 static void call_load(void)
 {
     memcpy(&current, given, sizeof current);

@@ -9,9 +9,11 @@ import subprocess
 import sys
 import threading
 
+from states import PLACES
+
 TICK = b"0 0 1 0 0 0 0 0\n"
 BAD = b"bad\n"
-LARGEST = b"load" + b" 4294967295" * 348
+LARGEST = b"load" + b" 4294967295" * PLACES
 AGREED = b"agreed\n"
 READ_LSR = b" %d" % 0x10000560  # agrees on a fresh device
 MOST_WORDS = 1024
@@ -36,7 +38,7 @@ CASES = [
     (LARGEST + b"\nstate\npins", b"0\n" + LARGEST[5:] + b"\n1 0 0 0 0 0 0\n"),
     (LARGEST + b"\n" + b"state\n" * 100, b"0\n" + (LARGEST[5:] + b"\n") * 100),
     (LARGEST + b" \n", BAD), (LARGEST + b"1\n", BAD), (LARGEST + b" 1\n", BAD),
-    (b"load" + b" 0" * 347, BAD), (b"load" + b" 0" * 349, BAD), (b"load" + b" 0" * 348, b"0\n"),
+    (b"load" + b" 0" * (PLACES - 1), BAD), (b"load" + b" 0" * (PLACES + 1), BAD), (b"load" + b" 0" * PLACES, b"0\n"),
 ]
 CASES += [
     (b"replay 1\n", AGREED), (b"replay 1", AGREED), (b"replay\n", BAD), (b"replay \n", BAD),

@@ -79,7 +79,7 @@
 #define IDLE_LIMIT 769u
 
 _Static_assert(sizeof(struct uart) == UART_STATE_PLACES * sizeof(uint32_t),
-               "the state is 348 numbers without gaps");
+               "the state is its numbers without gaps");
 
 /* ---- Formats and frames ("A tick") ---- */
 

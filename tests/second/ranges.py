@@ -4,7 +4,7 @@
 Every random state drawn by states.py has to be well formed, and so does what
 each of some steps makes of it. Every damage of the table has to be refused with
 number 1 by every call, the state staying as it was. A number too wide for its
-register has to be refused in each of the 348 places.
+register has to be refused in each of its places.
 
 usage: ranges.py PROGRAM [STATES]
 """

@@ -15,7 +15,7 @@ import readings
 import rows
 import states as st
 from recorder import utr
-from states import BIGGEST
+from states import BIGGEST, PLACES
 from steps import FCR, IER, IIR, LCR, LSR, MCR, MSR, RBR, SCR, THR, Lines
 
 
@@ -1191,10 +1191,10 @@ BAD_LINES = (
     "level", "level ", "level 4294967296", "level 00", "level 01", "level 1 1", "level -0",
     "level " + "1" * 40, "level " + "0" * 40, "run", "run ", "run 4294967296", "run 00",
     "run 01", "run 1 1", "run " + "9" * 40,
-    "load", "load ", "load 0", "load" + " 0" * 347, "load" + " 0" * 349, "load" + " 0" * 348 + " ",
-    "load " + " 0" * 348, "load" + " 0" * 347 + " 4294967296", "load" + " 0" * 347 + " 00",
-    "load" + " 0" * 347 + " x", "load" + " 0" * 100 + "  0" + " 0" * 247, "load 0,0",
-    "LOAD" + " 0" * 348, "load" + "\t0" * 348,
+    "load", "load ", "load 0", "load" + " 0" * (PLACES - 1), "load" + " 0" * (PLACES + 1), "load" + " 0" * PLACES + " ",
+    "load " + " 0" * PLACES, "load" + " 0" * (PLACES - 1) + " 4294967296", "load" + " 0" * (PLACES - 1) + " 00",
+    "load" + " 0" * (PLACES - 1) + " x", "load" + " 0" * 100 + "  0" + " 0" * 247, "load 0,0",
+    "LOAD" + " 0" * PLACES, "load" + "\t0" * PLACES,
     "replay", "replay ", "replay 65536", "replay 01", "replay 1 ", "replay 1  0", "replay 1 00",
     "replay 1 4294967296", "replay 1 x", "replay 1 -1", "replay -1", "Replay 1", "replay 1\t0",
     "help", "quit", "exit", "?", "#", "# fresh", ";", "tick;tick", "read 5;", "'tick'", "0", "1 2",
@@ -1217,7 +1217,7 @@ def bad_lines(q):
     # The right forms beside them.
     q.raw("tick", "ticks 1", "read 5", "write 7 255", "sin 1", "sin 0", "modem 15", "pins",
           "forecast", "level 0", "level 4294967295", "run 0", "run 4294967295", "reset", "fresh",
-          "load" + " 0" * 348, "load" + " 4294967295" * 348, "pins", "state")
+          "load" + " 0" * PLACES, "load" + " 4294967295" * PLACES, "pins", "state")
 
 
 def bad_bytes(q):
@@ -1226,7 +1226,7 @@ def bad_bytes(q):
         c = chr(byte)
         q.raw(c, c + "tick", "tick" + c, "ti" + c + "ck", "read" + c + "5", "read 5" + c,
               "read " + c + "5", c * 50)
-    q.raw("tick\0\0\0\0", "\0" * 4000, "ticks 1\0", "load" + " 0" * 347 + " \0", "pins", "state")
+    q.raw("tick\0\0\0\0", "\0" * 4000, "ticks 1\0", "load" + " 0" * (PLACES - 1) + " \0", "pins", "state")
 
 
 def long_line(q):

@@ -1,4 +1,4 @@
-"""States of the UART as lists of 348 numbers, in the order of the text protocol.
+"""States of the UART as lists of numbers, in the order of the text protocol.
 
 Holds the names of the places, the few formulas of document 01 needed to build
 well-formed states, a random drawing of them that favours boundaries, and the
@@ -7,7 +7,6 @@ table of damages: one for each range of document 01, section "The state".
 
 import random
 
-PLACES = 348
 QUEUE = 64
 
 IER, MCR, LCR, SCR, DIVISOR, K = range(0, 6)
@@ -17,6 +16,7 @@ L, BYTE, FORMAT = range(77, 80)
 RX_COUNT, RX = 80, 81
 RX_STATE, P, RX_FORMAT, RX_DATA, RX_PARITY = range(337, 342)
 TX_LATCH, OE, TIMEOUT, IDLE, CHANGES, HOLD = range(342, 348)
+PLACES = HOLD + 1
 
 # The places outside the two queues.
 SINGLES = tuple(range(0, 13)) + (L, BYTE, FORMAT, RX_COUNT) + tuple(range(RX_STATE, PLACES))
