@@ -57,7 +57,3 @@ pub every-append : (ts us : List Bool) → every (ts ++ us) ≡ (every ts && eve
 every-append [] us = refl
 every-append (true ∷ ts) us = every-append ts us
 every-append (false ∷ ts) us = refl
-
--- what is not at most is above
-pub not-leb : (a b : ℕ) → not (leb a b) ≡ ltb b a
-not-leb a b = elim (decLt b a) [ yes h ↦ simp (lt-leb a b h, lt-ltb b a h) | no h ↦ simp (le-leb a b (omega arith), le-ltb b a (omega arith)) ]

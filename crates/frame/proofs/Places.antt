@@ -30,11 +30,6 @@ pub level-in-wait : (l x g f q : ℕ) (bs : List ℕ) → l ≡ 0 → q ≡ 0 �
 level-in-wait l x g f q [] el eq = rw (el, eq, spelled-nothing)
 level-in-wait l x g f q (b ∷ bs) el eq = rw (el, eq, spelled-waiting)
 
--- beyond the end: high
-pub level-beyond : (l x g f q : ℕ) (bs : List ℕ) → l ≤ frameLength g → pulsesLeft l (length bs) (frameLength f) ≤ q
-    → getD (spelled l x g f bs) q 1 ≡ 1
-level-beyond l x g f q bs h le = List·getD-eq-default (spelled l x g f bs) 1 (omega (arith, length-spelled l x g f bs h))
-
 -- Behind the first part, which has L places or the one: m places on, place m % F of the frame of byte number m / F.
 
 frame-length-positive : (f : ℕ) → 0 < frameLength f

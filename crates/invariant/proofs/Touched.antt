@@ -1,18 +1,15 @@
 -- Which parts of the state each step touches: the rows of `specs/Touch.antt` hold of the definitions.
 use Prim.Native.Nat.{ℕ}
 use mathlib.Core.Path.{_≡_, refl, sym, ap, _∙_}
-use mathlib.Core.Bool.{Bool, true, false, cond, not, _&&_, _||_, true≢false}
+use mathlib.Core.Bool.{Bool, true, false, cond, _&&_, true≢false}
 use lib.Dec.{eqb}
-use borrow.Author.Tests.{eqb-true, not-true, not-false}
-use Rattle.flag.specs.Flag.{bit}
+use borrow.Author.Tests.{not-false}
 use Rattle.flag.proofs.Laws.{by-test}
-use Rattle.device.specs.declared.FifoControl.{FifoControl}
 use Rattle.device.specs.declared.State.{State}
-use Rattle.device.specs.State.{withFifo, withLatches}
+use Rattle.device.specs.State.{withLatches}
 use Rattle.device.specs.Autoflow.{settled}
 use Rattle.device.specs.Thr.{thrWrite}
 use Rattle.device.specs.Ier.{ierWrite}
-use Rattle.device.specs.Fcr.{fifoAfter, switched, clearReceive, clearTransmit, fcrWrite}
 use Rattle.device.specs.Lcr.{divisorAccess, lcrWrite}
 use Rattle.device.specs.Mcr.{mcrWrite}
 use Rattle.device.specs.Msr.{withLevels}
@@ -23,7 +20,7 @@ use Rattle.device.specs.Receiver.{reception, enters, entered, accepted, receive
 use Rattle.device.specs.Idle.{counts, idled}
 use Rattle.device.specs.Tick.{pulsed}
 use Rattle.device.specs.Calls.{writeRegister}
-use Rattle.invariant.specs.Touch.{Parts, byNumbers, byQueues, byPulse, merged, Touches, reachesQueue}
+use Rattle.invariant.specs.Touch.{Parts, byNumbers, byTransmit, byPulse, merged, Touches, reachesQueue}
 use Rattle.invariant.proofs.Registers.{by-address}
 
 -- The rules that end a step touch the latches alone.
@@ -73,34 +70,10 @@ numbers-touched s a b h =
     refl
     (scr-touches s b)
 
--- A write that reaches a queue.
-
-thr-touches : (s : State) (b : ℕ) → Touches byQueues s (thrWrite s b)
+-- A write to THR.
+pub thr-touches : (s : State) (b : ℕ) → Touches byTransmit s (thrWrite s b)
 unfolding thrWrite
 thr-touches s b = refl
-
-fcr-touches : (s : State) (b : ℕ) → Touches byQueues s (fcrWrite s b)
-unfolding fcrWrite clearReceive clearTransmit
-fcr-touches s b =
-    let g = fifoAfter (s .registers) (s .fifo) b in
-    go g (switched (s .fifo) g || (bit 0 b && bit 1 b)) (switched (s .fifo) g || (bit 0 b && bit 2 b))
-  where
-    go : (g : FifoControl) (receive transmit : Bool) →
-        (let t = withFifo s g in
-        let u = cond receive (clearReceive t) t in
-        Touches byQueues s (cond transmit (clearTransmit u) u))
-    go g true true = refl
-    go g true false = refl
-    go g false true = refl
-    go g false false = refl
-
-pub queues-touched : (s : State) (a b : ℕ) → reachesQueue s a ≡ true → Touches byQueues s (writeRegister s a b)
-unfolding writeRegister
-queues-touched s a b h = go (eqb a 0) refl
-  where
-    go : (z : Bool) → eqb a 0 ≡ z → Touches byQueues s (writeRegister s a b)
-    go true e = simp (e, not-true (divisorAccess (s .registers)) (simp e at h)) (thr-touches s b)
-    go false e = simp (eqb-true a 2 (simp e at h)) (fcr-touches s b)
 
 -- A pulse: its parts one after the other.
 

@@ -22,21 +22,13 @@ pub record Parts : Type 0 where
 
 -- The table. The rules that end a step touch the latches, so every row has them.
 
--- a read: RBR takes from the receive queue, LSR clears errors there
-abbrev pub byRead : Parts
-byRead = record { registers = false; baud = false; fifo = false; inputs = false; tx = false; frame = false; rx = true; receiver = false; latches = true }
-
 -- a write that reaches no queue
 abbrev pub byNumbers : Parts
 byNumbers = record { registers = true; baud = true; fifo = false; inputs = false; tx = false; frame = false; rx = false; receiver = false; latches = true }
 
--- a write that reaches a queue
-abbrev pub byQueues : Parts
-byQueues = record { registers = false; baud = false; fifo = true; inputs = false; tx = true; frame = false; rx = true; receiver = false; latches = true }
-
--- SIN and the modem pins
-abbrev pub byInputs : Parts
-byInputs = record { registers = false; baud = false; fifo = false; inputs = true; tx = false; frame = false; rx = false; receiver = false; latches = true }
+-- a write to THR
+abbrev pub byTransmit : Parts
+byTransmit = record { registers = false; baud = false; fifo = false; inputs = false; tx = true; frame = false; rx = false; receiver = false; latches = true }
 
 -- a pulse
 abbrev pub byPulse : Parts

@@ -125,16 +125,6 @@ count-put c n h = by-test (λ m. m ≤ c) (ltb n c) _ _ (λ e. omega (arith, ltb
 pub count-taken : (c n : ℕ) → n ≤ c → n - 1 ≤ c
 count-taken c n h = omega arith
 
--- a queue whose count has reached the capacity is full
-pub full-at : (c n : ℕ) → c ≤ n → isFull c n ≡ true
-unfolding isFull
-full-at c n h = le-leb c n h
-
--- the count of a full queue has reached the capacity
-pub at-full : (c n : ℕ) → isFull c n ≡ true → c ≤ n
-unfolding isFull
-at-full c n e = leb-true c n e
-
 -- The empty queues.
 
 -- 64 places of bytes

@@ -20,10 +20,10 @@ use Rattle.device.specs.Thr.{thrWrite}
 use Rattle.device.specs.Msr.{withLevels}
 use Rattle.device.specs.Calls.{done, readRegister, writeRegister, resetOf, readOf, writeOf, sinOf, modemOf, ticksOf}
 use Rattle.queue.specs.Queue.{putByte}
-use Rattle.invariant.specs.Touch.{byNumbers, merged, Touches, reachesQueue, numbersOf}
+use Rattle.invariant.specs.Touch.{byNumbers, byTransmit, merged, Touches, reachesQueue, numbersOf}
 use Rattle.invariant.proofs.Good.{good-of}
 use Rattle.invariant.proofs.Settled.{Kept, settled-same}
-use Rattle.invariant.proofs.Touched.{settled-touches, numbers-touched}
+use Rattle.invariant.proofs.Touched.{settled-touches, numbers-touched, thr-touches}
 use Rattle.invariant.proofs.Steps.{reset-kept, read-kept, write-kept, sin-kept, modem-kept, ticks-kept}
 use Rattle.bus.specs.Readable.{Readable}
 use Rattle.step.specs.Record.{Stepped, stepOf, Way}
@@ -170,12 +170,10 @@ numbers-step s w f h =
     let step = write-step s w f (h .0) in
     step ∙ numbers-settled s (address w) (byte w) (h .1) ∙ ap (λ (t : State). merged byNumbers s t) (sym step)
 
-pub transmit-step : (s : State) (w : ℕ) → wellFormed s ≡ true → (kind w ≡ 2) × (address w ≡ 0) × (divisorAccess (s .registers) ≡ false) →
-    stepOf s w .state ≡ withLatches (withTx s (stepOf s w .state .tx)) (stepOf s w .state .latches)
-unfolding thrWrite
+pub transmit-step : (s : State) (w : ℕ) → wellFormed s ≡ true → (kind w ≡ 2) × (address w ≡ 0) × (divisorAccess (s .registers) ≡ false) → Touches byTransmit s (stepOf s w .state)
 transmit-step s w f h =
     let step = thr-step s w f h in
-    step ∙ ap (λ (t : State). withLatches (withTx s (t .tx)) (t .latches)) (sym step)
+    step ∙ thr-touches s (byte w) ∙ ap (λ (t : State). merged byTransmit s t) (sym step)
 
 -- A record leaves a well-formed state.
 

@@ -10,7 +10,7 @@ fresh-requires : tie.Need-fresh-requires
 fresh-requires c κs = tt
 
 returns : tie.Need-returns
-returns c = ap (λ (s : State). withRegisters s (withIer (s .registers) 255)) (c .fresh .ensures)
+returns c = ap (λ (s : State). withRegisters s (withIer (s .registers) 255)) (c .before .fresh .ensures)
 
 pub unfit-spec : {M : Type 1} → statement M
 unfit-spec = tie.close (tie.spec fresh-requires returns)
