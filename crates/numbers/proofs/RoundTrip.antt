@@ -9,7 +9,7 @@ use native.Mathlib.Omega.{arith}
 use borrow.Author.Tests.{leb-true}
 use Rattle.flag.specs.Flag.{allOf}
 use Rattle.flag.proofs.Laws.{and-left, and-right, and-both, Each, each-of}
-use Rattle.numbers.specs.Numbers.{stateCount, entriesNumbers, settingsNumbers, frameNumbers, receiverNumbers, numbersOf, place, byteAt, isByte, bytesIn, byteTests, fits, low, entriesOf, transmitOf, receiveOf, stateOf}
+use Rattle.numbers.specs.Numbers.{receiverCount, stateCount, entriesNumbers, settingsNumbers, frameNumbers, receiverNumbers, numbersOf, place, byteAt, isByte, bytesIn, byteTests, fits, low, entriesOf, transmitOf, receiveOf, stateOf}
 
 -- Bytes.
 
@@ -136,7 +136,7 @@ module _ (ns : List ℕ) (long : length ns ≡ stateCount) (t : fits ns ≡ true
   unfolding stateOf
   receiver-back =
       rw (b82 338 (omega arith) (omega arith), b340 340 (omega arith) (omega arith), b340 341 (omega arith) (omega arith), b340 342 (omega arith) (omega arith), b340 343 (omega arith) (omega arith), b340 344 (omega arith) (omega arith), b340 345 (omega arith) (omega arith), b347 347 (omega arith) (omega arith), b347 348 (omega arith) (omega arith))
-      (each-part 11 337 ns (omega arith) ∙ take-all 11 (drop 337 ns) (simp length-drop (omega arith)))
+      (each-part receiverCount 337 ns (omega arith) ∙ take-all receiverCount (drop 337 ns) (simp length-drop (omega arith)))
 
   -- the numbers of the state that is made of them
   pub loaded-prints : numbersOf (stateOf ns) ≡ ns

@@ -143,10 +143,10 @@ abbrev pub receiverOf : List ℕ → Receiver
 receiverOf ns =
     record {
       phase = byteAt 338 ns;
+      position = place 339 ns;
       format = byteAt 340 ns;
       samples = byteAt 341 ns;
       parity = byteAt 342 ns;
-      position = place 339 ns;
     }
 
 abbrev pub latchesOf : List ℕ → Latches
@@ -155,9 +155,9 @@ latchesOf ns =
       empty = byteAt 343 ns;
       overrun = byteAt 344 ns;
       timeout = byteAt 345 ns;
+      idle = place 346 ns;
       changes = byteAt 347 ns;
       hold = byteAt 348 ns;
-      idle = place 346 ns;
     }
 
 unfoldable pub stateOf : List ℕ → State

@@ -20,7 +20,7 @@ ghost use Prim.Native.Nat.{_+_, _*_, _%_, _≤_};
 ghost use lib.ListN.{length};
 ghost use Rattle.flag.specs.Flag.{allOf};
 ghost use Rattle.text.specs.Text.{Appended};
-ghost use Rattle.numbers.specs.Numbers.{stateCount, settingsNumbers, frameNumbers, entryNumbers, entriesNumbers, receiverNumbers, numbersOf, isByte, bytesIn, registersOf, fifoOf, transmitOf, entryOf, entriesOf, receiveOf, frameOf, receiverOf, latchesOf, stateOf};
+ghost use Rattle.numbers.specs.Numbers.{stateCount, settingsNumbers, frameNumbers, entryNumbers, entriesNumbers, receiverNumbers, numbersOf, isByte, bytesIn, registersOf, transmitOf, entryOf, entriesOf, receiveOf, frameOf, receiverOf, latchesOf, stateOf};
 ghost use Rattle.numbers.specs.Numbers.{fits as «do-fit», low as «low-of»};
 
 // How many numbers stand before each group that follows the settings.
@@ -210,16 +210,15 @@ fn registers_of(n: &[u32]) -> Registers
     }
 }
 
-// The FIFO's settings.
-fn fifo_of(n: &[u32]) -> FifoControl
+// The frame now sent.
+fn frame_of(n: &[u32]) -> Frame
     requires { ⌜ length (now n) ≡ stateCount ⌝ }
-    ensures { λ r. ⌜ r ≡ fifoOf (now (n .entry)) ⌝ }
+    ensures { λ r. ⌜ r ≡ frameOf (now (n .entry)) ⌝ }
 {
-    FifoControl {
-        enabled: (n[6] % 256) as u8,
-        size: (n[7] % 256) as u8,
-        dma: (n[8] % 256) as u8,
-        trigger: (n[9] % 256) as u8,
+    Frame {
+        left: n[77],
+        byte: (n[78] % 256) as u8,
+        format: (n[79] % 256) as u8,
     }
 }
 
@@ -245,6 +244,35 @@ fn transmit_of(n: &[u32]) -> ByteQueue
     ByteQueue {
         bytes: bytes_of(&n[TRANSMIT..FRAME]),
         count: n[12],
+    }
+}
+
+// The receiver.
+fn receiver_of(n: &[u32]) -> Receiver
+    requires { ⌜ length (now n) ≡ stateCount ⌝ }
+    ensures { λ r. ⌜ r ≡ receiverOf (now (n .entry)) ⌝ }
+{
+    Receiver {
+        phase: (n[337] % 256) as u8,
+        position: n[338],
+        format: (n[339] % 256) as u8,
+        samples: (n[340] % 256) as u8,
+        parity: (n[341] % 256) as u8,
+    }
+}
+
+// The latches.
+fn latches_of(n: &[u32]) -> Latches
+    requires { ⌜ length (now n) ≡ stateCount ⌝ }
+    ensures { λ r. ⌜ r ≡ latchesOf (now (n .entry)) ⌝ }
+{
+    Latches {
+        empty: (n[342] % 256) as u8,
+        overrun: (n[343] % 256) as u8,
+        timeout: (n[344] % 256) as u8,
+        idle: n[345],
+        changes: (n[346] % 256) as u8,
+        hold: (n[347] % 256) as u8,
     }
 }
 
@@ -289,47 +317,6 @@ fn receive_of(n: &[u32]) -> EntryQueue
     }
 }
 
-// The frame now sent.
-fn frame_of(n: &[u32]) -> Frame
-    requires { ⌜ length (now n) ≡ stateCount ⌝ }
-    ensures { λ r. ⌜ r ≡ frameOf (now (n .entry)) ⌝ }
-{
-    Frame {
-        left: n[77],
-        byte: (n[78] % 256) as u8,
-        format: (n[79] % 256) as u8,
-    }
-}
-
-// The receiver.
-fn receiver_of(n: &[u32]) -> Receiver
-    requires { ⌜ length (now n) ≡ stateCount ⌝ }
-    ensures { λ r. ⌜ r ≡ receiverOf (now (n .entry)) ⌝ }
-{
-    Receiver {
-        phase: (n[337] % 256) as u8,
-        format: (n[339] % 256) as u8,
-        samples: (n[340] % 256) as u8,
-        parity: (n[341] % 256) as u8,
-        position: n[338],
-    }
-}
-
-// The latches.
-fn latches_of(n: &[u32]) -> Latches
-    requires { ⌜ length (now n) ≡ stateCount ⌝ }
-    ensures { λ r. ⌜ r ≡ latchesOf (now (n .entry)) ⌝ }
-{
-    Latches {
-        empty: (n[342] % 256) as u8,
-        overrun: (n[343] % 256) as u8,
-        timeout: (n[344] % 256) as u8,
-        changes: (n[346] % 256) as u8,
-        hold: (n[347] % 256) as u8,
-        idle: n[345],
-    }
-}
-
 // The state of these numbers, each cut to its place's type.
 pub fn state_of(n: &[u32]) -> State
     requires { ⌜ length (now n) ≡ stateCount ⌝ }
@@ -341,7 +328,12 @@ pub fn state_of(n: &[u32]) -> State
             divisor: n[4],
             k: n[5],
         },
-        fifo: fifo_of(n),
+        fifo: FifoControl {
+            enabled: (n[6] % 256) as u8,
+            size: (n[7] % 256) as u8,
+            dma: (n[8] % 256) as u8,
+            trigger: (n[9] % 256) as u8,
+        },
         inputs: Inputs {
             modem: (n[10] % 256) as u8,
             sin: (n[11] % 256) as u8,
