@@ -235,8 +235,8 @@ struct uart_replay uart_replay(struct uart_state s, uint32_t version, const uint
 /*
  * The library's own layout: the size of each struct, and a specimen of each in which every byte of
  * a field is the field's number. The state has fields 1..33 in the order above (an entry's are
- * 18..21); elsewhere the number answered is 34, the field after it 35, the output pins 36..41, the
- * model's byte and the place of a replay 42 and 43.
+ * 18..21). The answers' own fields are numbered from 100: the number answered is 100, the field after
+ * it 101, the output pins 102..107, the model's byte and the place of a replay 108 and 109.
  */
 uint32_t uart_size_of_state(void);
 uint32_t uart_size_of_answer(void);

@@ -64,12 +64,12 @@ static void check_state(struct uart_state s)
 
 static void check_outputs(struct uart_outputs o)
 {
-    HAS(o, sout, 36);
-    HAS(o, rts, 37);
-    HAS(o, dtr, 38);
-    HAS(o, out1, 39);
-    HAS(o, out2, 40);
-    HAS(o, intrpt, 41);
+    HAS(o, sout, 102);
+    HAS(o, rts, 103);
+    HAS(o, dtr, 104);
+    HAS(o, out1, 105);
+    HAS(o, out2, 106);
+    HAS(o, intrpt, 107);
 }
 
 static void check_specimens(void)
@@ -82,23 +82,23 @@ static void check_specimens(void)
     struct uart_replay replay = uart_specimen_replay();
 
     check_state(uart_specimen_state());
-    HAS(answer, number, 34);
-    HAS(answer, byte, 35);
+    HAS(answer, number, 100);
+    HAS(answer, byte, 101);
     check_outputs(answer.outputs);
     check_state(answer.state);
-    HAS(looked, number, 34);
+    HAS(looked, number, 100);
     check_outputs(looked.outputs);
-    HAS(forecasted, number, 34);
-    HAS(forecasted, ticks, 35);
-    HAS(leveled, number, 34);
-    HAS(leveled, level, 35);
-    HAS(ran, number, 34);
-    HAS(ran, used, 35);
+    HAS(forecasted, number, 100);
+    HAS(forecasted, ticks, 101);
+    HAS(leveled, number, 100);
+    HAS(leveled, level, 101);
+    HAS(ran, number, 100);
+    HAS(ran, used, 101);
     check_state(ran.state);
-    HAS(replay, values.number, 34);
-    HAS(replay, values.seen, 35);
-    HAS(replay, values.model, 42);
-    HAS(replay, values.place, 43);
+    HAS(replay, values.number, 100);
+    HAS(replay, values.seen, 101);
+    HAS(replay, values.model, 108);
+    HAS(replay, values.place, 109);
     check_state(replay.state);
 }
 

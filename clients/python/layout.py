@@ -37,16 +37,16 @@ STATE = {
         "idle": four(33),
     },
 }
-OUTPUTS = {"sout": 36, "rts": 37, "dtr": 38, "out1": 39, "out2": 40, "intrpt": 41}
+OUTPUTS = {"sout": 102, "rts": 103, "dtr": 104, "out1": 105, "out2": 106, "intrpt": 107}
 SPECIMENS = {
     State: STATE,
-    Answer: {"number": 34, "byte": 35, "outputs": OUTPUTS, "state": STATE},
-    Looked: {"number": 34, "outputs": OUTPUTS},
-    Forecasted: {"number": 34, "ticks": four(35)},
-    Leveled: {"number": 34, "level": 35},
-    Ran: {"number": 34, "used": four(35), "state": STATE},
+    Answer: {"number": 100, "byte": 101, "outputs": OUTPUTS, "state": STATE},
+    Looked: {"number": 100, "outputs": OUTPUTS},
+    Forecasted: {"number": 100, "ticks": four(101)},
+    Leveled: {"number": 100, "level": 101},
+    Ran: {"number": 100, "used": four(101), "state": STATE},
     Replay: {
-        "values": {"number": 34, "seen": 35, "model": 42, "place": 43 * 0x0101010101010101},
+        "values": {"number": 100, "seen": 101, "model": 108, "place": 109 * 0x0101010101010101},
         "state": STATE,
     },
 }

@@ -65,12 +65,12 @@ fn state() -> State {
 
 fn outputs() -> Outputs {
     Outputs {
-        sout: 36,
-        rts: 37,
-        dtr: 38,
-        out1: 39,
-        out2: 40,
-        intrpt: 41,
+        sout: 102,
+        rts: 103,
+        dtr: 104,
+        out1: 105,
+        out2: 106,
+        intrpt: 107,
     }
 }
 
@@ -80,8 +80,8 @@ fn fields_lie_as_in_the_specimens() {
     assert_eq!(
         uart_specimen_answer(),
         Answer {
-            number: 34,
-            byte: 35,
+            number: 100,
+            byte: 101,
             outputs: outputs(),
             state: state()
         }
@@ -89,29 +89,29 @@ fn fields_lie_as_in_the_specimens() {
     assert_eq!(
         uart_specimen_looked(),
         Looked {
-            number: 34,
+            number: 100,
             outputs: outputs()
         }
     );
     assert_eq!(
         uart_specimen_forecasted(),
         Forecasted {
-            number: 34,
-            ticks: four(35)
+            number: 100,
+            ticks: four(101)
         }
     );
     assert_eq!(
         uart_specimen_leveled(),
         Leveled {
-            number: 34,
-            level: 35
+            number: 100,
+            level: 101
         }
     );
     assert_eq!(
         uart_specimen_ran(),
         Ran {
-            number: 34,
-            used: four(35),
+            number: 100,
+            used: four(101),
             state: state()
         }
     );
@@ -119,10 +119,10 @@ fn fields_lie_as_in_the_specimens() {
         uart_specimen_replay(),
         Replay {
             values: Values {
-                number: 34,
-                seen: 35,
-                model: 42,
-                place: usize::from_ne_bytes([43; 8])
+                number: 100,
+                seen: 101,
+                model: 108,
+                place: usize::from_ne_bytes([109; 8])
             },
             state: state()
         }

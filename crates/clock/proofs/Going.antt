@@ -1,118 +1,28 @@
 -- The loop over ticks: its invariant, and a law for each way that a turn goes.
-use Prim.Native.Nat.{ℕ, zero, suc, _+_, _-_, _≤_, _<_, min}
+use Prim.Native.Nat.{ℕ, _+_, _-_, _≤_, _<_}
 use native.Mathlib.Numerals.{add-one}
-use native.Mathlib.Decide.{ℕ-discrete}
-use lib.Pow.{pow-pos}
-use Rattle.frame.specs.Format.{dataBits}
-use Rattle.device.specs.Ranges.{samplesTaken}
 use native.Mathlib.Omega.{arith}
 use mathlib.Core.Path.{_≡_, refl, sym, ap, subst, _∙_}
-use mathlib.Core.Bool.{Bool, true, false, cond}
-use lib.Dec.{eqb}
-use borrow.Author.Tests.{eq-eqb, ne-eqb}
+use mathlib.Core.Bool.{true}
 use Rattle.device.specs.declared.Baud.{Baud}
 use Rattle.device.specs.declared.Frame.{Frame}
 use Rattle.device.specs.declared.Receiver.{Receiver}
 use Rattle.device.specs.declared.Latches.{Latches}
 use Rattle.device.specs.declared.State.{State}
 use Rattle.device.specs.Autoflow.{settled}
-use Rattle.device.specs.State.{withLatches, withK}
 use Rattle.device.specs.Transmitter.{ready}
-use Rattle.device.specs.Tick.{pulsed, ticked}
-use Rattle.device.specs.Calls.{done, tickOf, ticksOf}
-use Rattle.device.specs.Ranges.{wellFormed}
-use Rattle.invariant.proofs.Good.{ReceiverFacts, good-of, of-good}
-use Rattle.invariant.proofs.Settled.{Kept, settled-same}
+use Rattle.device.specs.Tick.{pulsed}
+use Rattle.device.specs.Calls.{tickOf, ticksOf}
+use Rattle.invariant.proofs.Settled.{Kept}
 use Rattle.invariant.proofs.Touched.{pulsed-touches}
 use Rattle.invariant.proofs.Steps.{tick-kept}
 use Rattle.clock.specs.declared.Setting.{Setting}
 use Rattle.clock.specs.declared.QuietPulse.{QuietPulse}
-use Rattle.line.specs.Needs.{Placed, Hearing}
 use Rattle.clock.specs.Needs.{Quieting, Pulsing}
 use Rattle.clock.specs.Quiet.{settingOf, assembled, quietOf}
+use Rattle.clock.proofs.Needed.{state-hearing, state-idle}
 use Rattle.clock.proofs.Quieted.{quiet-is-pulse}
-
--- the last of t + 1 ticks
-pub ticks-last : (t : ℕ) (s : State) → ticksOf (suc t) s ≡ tickOf (ticksOf t s) .state
-ticks-last zero s = refl
-ticks-last (suc t) s = ticks-last t (tickOf s .state)
-
--- What a tick does to a well-formed state.
-
-kept-settled : (s : State) → Kept s → settled s ≡ s
-kept-settled s w = settled-same s (good-of s (w .well))
-
-tick-state : (s : State) → Kept s → tickOf s .state ≡ settled (ticked s)
-unfolding tickOf done
-tick-state s w = simp (w .well)
-
--- with no divisor nothing changes
-tick-stopped : (s : State) → Kept s → s .baud .divisor ≡ 0 → tickOf s .state ≡ s
-unfolding ticked
-tick-stopped s w z = tick-state s w ∙ simp (eq-eqb (s .baud .divisor) 0 z) (kept-settled s w)
-
-pub ticks-stopped : (n : ℕ) (s : State) → Kept s → s .baud .divisor ≡ 0 → s ≡ ticksOf n s
-ticks-stopped zero s w z = refl
-ticks-stopped (suc n) s w z = ticks-stopped n s w z ∙ ap (λ (t : State). ticksOf n t) (sym (tick-stopped s w z))
-
-tick-counts : (s : State) → Kept s → 1 ≤ s .baud .divisor → 1 < s .baud .k → tickOf s .state ≡ withK s (s .baud .k - 1)
-unfolding ticked settled
-tick-counts s w d h =
-    let d′ : s .baud .divisor ≡ 0 → ⊥ = λ z. absurd (omega arith) in
-    let k′ : s .baud .k - 1 ≡ 0 → ⊥ = λ z. absurd (omega arith) in
-    tick-state s w
-    ∙ simp (ne-eqb (s .baud .divisor) 0 d′, ne-eqb (s .baud .k - 1) 0 k′)
-    (ap (λ (t : State). withLatches (withK s (s .baud .k - 1)) (t .latches)) (kept-settled s w))
-
-tick-pulses : (s : State) → Kept s → 1 ≤ s .baud .divisor → s .baud .k ≤ 1 → tickOf s .state ≡ settled (pulsed (withK s (s .baud .divisor)))
-unfolding ticked
-tick-pulses s w d h =
-    let d′ : s .baud .divisor ≡ 0 → ⊥ = λ z. absurd (omega arith) in
-    let k′ : s .baud .k - 1 ≡ 0 = omega arith in
-    tick-state s w ∙ simp (ne-eqb (s .baud .divisor) 0 d′, eq-eqb (s .baud .k - 1) 0 k′)
-
--- What the parts of a pulse need of a well-formed state.
-
-receiver-placed : (v : Receiver) → ReceiverFacts v → Placed v
-receiver-placed v g =
-    elim (ℕ-discrete (v .phase) 2) [
-      | yes e ↦ let h = g .character e in record { place = omega arith; samples = h .samples-less }
-      | no e ↦
-          let h = g .outside e in
-          let few = pow-pos (min (dataBits (v .format)) (samplesTaken (v .position))) in
-          record { place = omega arith; samples = omega arith }
-    ]
-
-state-hearing : (s : State) → Kept s → Hearing s
-state-hearing s w =
-    let g = good-of s (w .well) in
-    record {
-      sent = record { left = g .transmit .frame .left-most };
-      sin = g .settings .sin-most;
-      placed = receiver-placed (s .receiver) (g .receive .receiver);
-    }
-
-state-idle : (s : State) → Kept s → s .latches .idle ≤ 769
-state-idle s w = good-of s (w .well) .latches .wait .idle-most
-
--- k may start again at any time
-restart-kept : (s : State) → Kept s → Kept (withK s (s .baud .divisor))
-restart-kept s w =
-    let g = good-of s (w .well) in
-    let r = g .registers in
-    record {
-      well =
-          of-good (withK s (s .baud .divisor))
-          (record {
-            registers = record { ier-most = r .ier-most; mcr-most = r .mcr-most; lcr-most = r .lcr-most; scr-most = r .scr-most; divisor-most = r .divisor-most; k-most = omega arith; k-least = λ h. h };
-            settings = g .settings;
-            transmit = g .transmit;
-            receive = g .receive;
-            latches = g .latches;
-            flow = g .flow;
-          });
-      places = record { bytes-long = w .places .bytes-long; entries-long = w .places .entries-long };
-    }
+use Rattle.clock.proofs.Ticked.{ticks-last, kept-settled, tick-counts, tick-pulses, restart-kept}
 
 -- The invariant: after i ticks of the n the state is the one put together from the numbers in hand and the queues of t.
 pub record Going (n : ℕ) (s : State) (d : ℕ) (t : State) (c : Setting) (k : ℕ) (x : Frame) (v : Receiver) (l : Latches) (i : ℕ) : Type 0 where

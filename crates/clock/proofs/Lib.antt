@@ -1,3 +1,4 @@
 pub mod Needed
 pub mod Quieted
+pub mod Ticked
 pub mod Going

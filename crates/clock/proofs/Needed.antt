@@ -1,17 +1,49 @@
--- A pulse goes on from part to part with what each part needs.
-use Prim.Native.Nat.{ℕ, _-_, _≤_}
+-- What the parts of a pulse need: a well-formed state has it, and it stays from part to part.
+use Prim.Native.Nat.{ℕ, _-_, _≤_, min}
+use native.Mathlib.Decide.{ℕ-discrete}
 use native.Mathlib.Omega.{arith}
 use mathlib.Core.Path.{_≡_, refl}
-use mathlib.Core.Bool.{Bool, _&&_}
+use mathlib.Core.Bool.{_&&_}
 use lib.Dec.{eqb}
+use lib.Pow.{pow-pos}
 use Rattle.flag.proofs.Laws.{by-test, cond-same}
-use Rattle.frame.specs.Format.{frameLength}
+use Rattle.frame.specs.Format.{dataBits}
 use Rattle.device.specs.declared.Frame.{Frame}
+use Rattle.device.specs.declared.Receiver.{Receiver}
 use Rattle.device.specs.declared.Received.{Received}
 use Rattle.device.specs.declared.State.{State}
 use Rattle.device.specs.Transmitter.{ready, shiftedOut, loaded, transmitted}
 use Rattle.device.specs.Receiver.{entered, accepted}
-use Rattle.line.specs.Needs.{Sent, Hearing}
+use Rattle.device.specs.Ranges.{samplesTaken}
+use Rattle.invariant.proofs.Good.{ReceiverFacts, good-of}
+use Rattle.invariant.proofs.Settled.{Kept}
+use Rattle.line.specs.Needs.{Sent, Placed, Hearing}
+
+-- A well-formed state has it.
+
+receiver-placed : (v : Receiver) → ReceiverFacts v → Placed v
+receiver-placed v g =
+    elim (ℕ-discrete (v .phase) 2) [
+      | yes e ↦ let h = g .character e in record { place = omega arith; samples = h .samples-less }
+      | no e ↦
+          let h = g .outside e in
+          let few = pow-pos (min (dataBits (v .format)) (samplesTaken (v .position))) in
+          record { place = omega arith; samples = omega arith }
+    ]
+
+pub state-hearing : (s : State) → Kept s → Hearing s
+state-hearing s w =
+    let g = good-of s (w .well) in
+    record {
+      sent = record { left = g .transmit .frame .left-most };
+      sin = g .settings .sin-most;
+      placed = receiver-placed (s .receiver) (g .receive .receiver);
+    }
+
+pub state-idle : (s : State) → Kept s → s .latches .idle ≤ 769
+state-idle s w = good-of s (w .well) .latches .wait .idle-most
+
+-- The parts of a pulse keep it.
 
 -- L falls, so it stays within the frame
 pub shifted-sent : (x : Frame) → Sent x → Sent (shiftedOut x)

@@ -1,8 +1,8 @@
-// The clock: the one loop over ticks.
+// The clock: the one loop over ticks, and the pulse that happens when k comes to 0.
 //
-// A tick lowers k, and at 0 a pulse happens. `quiet` has the common pulse, on numbers alone; `pulse`
-// has the whole one, for a pulse that loads a byte or ends a character. `advance` goes over ticks, the
-// numbers in hand and the queues left where they are, and its contract is that many calls of tick.
+// `quiet` has the common pulse, in which no byte is loaded and no character ends: numbers alone.
+// `pulse` has the whole one, on the state. `advance` goes over ticks with the numbers in locals and
+// the queues left where they are; its contract is that many calls of tick.
 pub mod pulse;
 pub mod quiet;
 

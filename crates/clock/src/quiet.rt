@@ -25,11 +25,12 @@ pub fn setting(s: State) -> Setting
 {
     let r = s.registers;
     let f = s.fifo;
+    let i = s.inputs;
     Setting {
         lcr: r.lcr,
-        sin: s.inputs.sin,
+        sin: i.sin,
         loopback: modem::loopback(r),
-        ready: transmitter::ready(s),
+        ready: transmitter::ready(s.tx.count, r, f, i),
         counts: idle::counts(f, s.rx.count),
         limit: idle::limit(r.lcr),
     }

@@ -18,6 +18,7 @@ fourTimes n = 16843009 * n
 abbrev pub eightTimes : ℕ → ℕ
 eightTimes n = 72340172838076673 * n
 
+-- the state: its fields are numbered from 1
 abbrev pub stateSpecimen : State
 stateSpecimen =
     record {
@@ -32,24 +33,26 @@ stateSpecimen =
       latches = record { empty = 28; overrun = 29; timeout = 30; changes = 31; hold = 32; idle = fourTimes 33 };
     }
 
-abbrev pub outputsSpecimen : Outputs
-outputsSpecimen = record { sout = 36; rts = 37; dtr = 38; out1 = 39; out2 = 40; intrpt = 41 }
+-- The answers: their own fields are numbered from 100, which no field of the state reaches.
 
-abbrev pub answerSpecimen : Answer
-answerSpecimen = record { number = 34; byte = 35; outputs = outputsSpecimen; state = stateSpecimen }
+abbrev pub outputsSpecimen : Outputs
+outputsSpecimen = record { sout = 102; rts = 103; dtr = 104; out1 = 105; out2 = 106; intrpt = 107 }
 
 abbrev pub lookedSpecimen : Looked
-lookedSpecimen = record { number = 34; outputs = outputsSpecimen }
+lookedSpecimen = record { number = 100; outputs = outputsSpecimen }
 
 abbrev pub forecastedSpecimen : Forecasted
-forecastedSpecimen = record { number = 34; ticks = fourTimes 35 }
+forecastedSpecimen = record { number = 100; ticks = fourTimes 101 }
 
 abbrev pub leveledSpecimen : Leveled
-leveledSpecimen = record { number = 34; level = 35 }
+leveledSpecimen = record { number = 100; level = 101 }
+
+abbrev pub answerSpecimen : Answer
+answerSpecimen = record { number = 100; byte = 101; outputs = outputsSpecimen; state = stateSpecimen }
 
 abbrev pub ranSpecimen : Ran
-ranSpecimen = record { number = 34; used = fourTimes 35; state = stateSpecimen }
+ranSpecimen = record { number = 100; used = fourTimes 101; state = stateSpecimen }
 
 abbrev pub replaySpecimen : Replay
 replaySpecimen =
-    record { values = record { number = 34; seen = 35; model = 42; place = eightTimes 43 }; state = stateSpecimen }
+    record { values = record { number = 100; seen = 101; model = 108; place = eightTimes 109 }; state = stateSpecimen }

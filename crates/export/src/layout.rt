@@ -1,6 +1,11 @@
 // The layout of the structs, as this library has it, for a client to hold its own declarations
 // against: the size of each struct, and a specimen of each in which every byte of a field is the
-// field's number in the order of declaration. The place of each field stands in the specimen's bytes.
+// field's number. The place of each field stands in the specimen's bytes.
+//
+// The state's fields are numbered from 1 in the order of declaration, those of the answers from 100:
+// the number answered is field 100; the byte, the ticks, the level, the ticks used and a replay's byte
+// seen are field 101; the output pins are fields 102..107; a replay's byte of the model is field 108,
+// its place field 109.
 use crate::Replay;
 use capture::Values;
 use device::Answer;
@@ -21,20 +26,14 @@ use queue::ByteQueue;
 use queue::Entry;
 use queue::EntryQueue;
 ghost use mathlib.Core.Path.{_≡_};
-ghost use Rattle.export.specs.Layout.{stateSpecimen, outputsSpecimen, answerSpecimen, lookedSpecimen, forecastedSpecimen, leveledSpecimen, ranSpecimen, replaySpecimen};
+ghost use Rattle.export.specs.Layout.{stateSpecimen, answerSpecimen, lookedSpecimen, forecastedSpecimen, leveledSpecimen, ranSpecimen, replaySpecimen};
 
+// The sizes in bytes: of the state, of the answers without one, and of those with it.
 #[no_mangle]
 pub extern "C" fn uart_size_of_state() -> u32
     ensures { λ r. ⌜ r ≡ 376 ⌝ }
 {
     376
-}
-
-#[no_mangle]
-pub extern "C" fn uart_size_of_answer() -> u32
-    ensures { λ r. ⌜ r ≡ 384 ⌝ }
-{
-    384
 }
 
 #[no_mangle]
@@ -59,20 +58,27 @@ pub extern "C" fn uart_size_of_leveled() -> u32
 }
 
 #[no_mangle]
+pub extern "C" fn uart_size_of_answer() -> u32
+    ensures { λ r. ⌜ r ≡ 384 ⌝ }
+{
+    uart_size_of_state() + 8
+}
+
+#[no_mangle]
 pub extern "C" fn uart_size_of_ran() -> u32
     ensures { λ r. ⌜ r ≡ 384 ⌝ }
 {
-    384
+    uart_size_of_state() + 8
 }
 
 #[no_mangle]
 pub extern "C" fn uart_size_of_replay() -> u32
     ensures { λ r. ⌜ r ≡ 392 ⌝ }
 {
-    392
+    uart_size_of_state() + 16
 }
 
-// The state with fields 1..33.
+// The state: fields 1..33.
 #[no_mangle]
 pub extern "C" fn uart_specimen_state() -> State
     ensures { λ r. ⌜ r ≡ stateSpecimen ⌝ }
@@ -132,41 +138,20 @@ pub extern "C" fn uart_specimen_state() -> State
     }
 }
 
-// The output pins with fields 36..41.
-fn outputs() -> Outputs
-    ensures { λ r. ⌜ r ≡ outputsSpecimen ⌝ }
-{
-    Outputs {
-        sout: 36,
-        rts: 37,
-        dtr: 38,
-        out1: 39,
-        out2: 40,
-        intrpt: 41,
-    }
-}
-
-// The other structs: the number answered is field 34; the byte, the ticks, the level and the ticks
-// used are field 35. A replay's byte seen is field 35, the model's 42, the place 43.
-#[no_mangle]
-pub extern "C" fn uart_specimen_answer() -> Answer
-    ensures { λ r. ⌜ r ≡ answerSpecimen ⌝ }
-{
-    Answer {
-        number: 34,
-        byte: 35,
-        outputs: outputs(),
-        state: uart_specimen_state(),
-    }
-}
-
 #[no_mangle]
 pub extern "C" fn uart_specimen_looked() -> Looked
     ensures { λ r. ⌜ r ≡ lookedSpecimen ⌝ }
 {
     Looked {
-        number: 34,
-        outputs: outputs(),
+        number: 100,
+        outputs: Outputs {
+            sout: 102,
+            rts: 103,
+            dtr: 104,
+            out1: 105,
+            out2: 106,
+            intrpt: 107,
+        },
     }
 }
 
@@ -175,8 +160,8 @@ pub extern "C" fn uart_specimen_forecasted() -> Forecasted
     ensures { λ r. ⌜ r ≡ forecastedSpecimen ⌝ }
 {
     Forecasted {
-        number: 34,
-        ticks: 0x23232323,
+        number: 100,
+        ticks: 0x65656565,
     }
 }
 
@@ -185,8 +170,22 @@ pub extern "C" fn uart_specimen_leveled() -> Leveled
     ensures { λ r. ⌜ r ≡ leveledSpecimen ⌝ }
 {
     Leveled {
-        number: 34,
-        level: 35,
+        number: 100,
+        level: 101,
+    }
+}
+
+#[no_mangle]
+pub extern "C" fn uart_specimen_answer() -> Answer
+    ensures { λ r. ⌜ r ≡ answerSpecimen ⌝ }
+{
+    let looked = uart_specimen_looked();
+    let outputs = looked.outputs;
+    Answer {
+        number: 100,
+        byte: 101,
+        outputs,
+        state: uart_specimen_state(),
     }
 }
 
@@ -195,8 +194,8 @@ pub extern "C" fn uart_specimen_ran() -> Ran
     ensures { λ r. ⌜ r ≡ ranSpecimen ⌝ }
 {
     Ran {
-        number: 34,
-        used: 0x23232323,
+        number: 100,
+        used: 0x65656565,
         state: uart_specimen_state(),
     }
 }
@@ -207,10 +206,10 @@ pub extern "C" fn uart_specimen_replay() -> Replay
 {
     Replay {
         values: Values {
-            number: 34,
-            seen: 35,
-            model: 42,
-            place: 0x2b2b2b2b2b2b2b2b,
+            number: 100,
+            seen: 101,
+            model: 108,
+            place: 0x6d6d6d6d6d6d6d6d,
         },
         state: uart_specimen_state(),
     }

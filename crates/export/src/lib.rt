@@ -43,6 +43,31 @@ pub extern "C" fn uart_reset(s: State) -> Answer
     uart::reset(s)
 }
 
+// One tick of the clock.
+#[no_mangle]
+pub extern "C" fn uart_tick(s: State) -> Answer
+    ensures { λ r. ⌜ r ≡ tickOf s ⌝ }
+{
+    uart::tick(s)
+}
+
+// n ticks of the clock, each on the state that the last left.
+#[no_mangle]
+pub extern "C" fn uart_ticks(s: State, n: u32) -> Answer
+    ensures { λ r. ⌜ r ≡ ticksAnswer s n ⌝ }
+{
+    uart::ticks(s, n)
+}
+
+// At most n ticks, until queue and shift register are both empty.
+#[no_mangle]
+pub extern "C" fn uart_run(s: State, n: u32) -> Ran
+    ensures outcome { λ r. ⌜ r ≡ runOf s n ⌝ }
+    ensures in_time { λ r. ⌜ (r .number ≡ 0 → StopsInTime s n (r .used)) ⌝ }
+{
+    uart::run(s, n)
+}
+
 // A register read at an address.
 #[no_mangle]
 pub extern "C" fn uart_read(s: State, address: u8) -> Answer
@@ -75,22 +100,6 @@ pub extern "C" fn uart_set_modem(s: State, levels: u8) -> Answer
     uart::set_modem(s, levels)
 }
 
-// One tick of the clock.
-#[no_mangle]
-pub extern "C" fn uart_tick(s: State) -> Answer
-    ensures { λ r. ⌜ r ≡ tickOf s ⌝ }
-{
-    uart::tick(s)
-}
-
-// n ticks of the clock, each on the state that the last left.
-#[no_mangle]
-pub extern "C" fn uart_ticks(s: State, n: u32) -> Answer
-    ensures { λ r. ⌜ r ≡ ticksAnswer s n ⌝ }
-{
-    uart::ticks(s, n)
-}
-
 // The output pins as they are.
 #[no_mangle]
 pub extern "C" fn uart_pins(s: State) -> Looked
@@ -116,15 +125,6 @@ pub extern "C" fn uart_level(s: State, t: u32) -> Leveled
     ensures ticked { λ r. ⌜ (r .number ≡ 0 → r .level ≡ line (ticksOf t s .frame)) ⌝ }
 {
     uart::level(s, t)
-}
-
-// At most n ticks, until queue and shift register are both empty.
-#[no_mangle]
-pub extern "C" fn uart_run(s: State, n: u32) -> Ran
-    ensures outcome { λ r. ⌜ r ≡ runOf s n ⌝ }
-    ensures in_time { λ r. ⌜ (r .number ≡ 0 → StopsInTime s n (r .used)) ⌝ }
-{
-    uart::run(s, n)
 }
 
 // A replay of records of a version: number 0 and both bytes the same where it agreed.

@@ -1,23 +1,21 @@
 -- Demand 3 for the device: the theorem about its transmitter, carried over to the answers of the tick call; and run.
-use Prim.Native.Nat.{ℕ, _≤_, _<_, min}
+use Prim.Native.Nat.{ℕ, min}
 use native.Mathlib.Omega.{arith}
 use mathlib.Core.Path.{_≡_, refl, sym, ap, subst, _∙_}
 use mathlib.Core.Bool.{Bool, true, false, cond, _&&_, false≢true}
-use mathlib.Core.List.{List, []}
 use lib.Dec.{ltb, eqb}
 use lib.ListN.{length, take}
 use borrow.Author.Tests.{eq-eqb, eqb-true, eqb-false, ltb-true, ltb-false}
 use Rattle.flag.proofs.Laws.{and-left, and-right, and-both}
 use Rattle.frame.specs.Format.{formatOf, frameLength}
 use Rattle.frame.specs.Forecast.{workLeft, pulsesLeft, ticksLeft, spelled, levelAfter}
-use Rattle.frame.specs.Transmitter.{Transmitter, Empty, Ready, ticks, lineOf, forecast, foretoldLevel}
+use Rattle.frame.specs.Transmitter.{Empty, Ready, ticks, lineOf, forecast, foretoldLevel}
 use Rattle.frame.proofs.Foretold as theorem
 use Rattle.frame.proofs.Stopped.{stopped-never-empty, held-never-empty}
 use Rattle.queue.specs.Queue.{contents}
 use Rattle.device.specs.declared.State.{State}
 use Rattle.device.specs.Autoflow.{held}
 use Rattle.device.specs.Lsr.{transmitterEmpty}
-use Rattle.device.specs.Transmitter.{line}
 use Rattle.device.specs.Ranges.{wellFormed}
 use Rattle.device.specs.Calls.{done, tickOf, ticksOf}
 use Rattle.device.specs.Forecast.{ticksToCome, levelToCome, noClock, heldBack, forecastNumber, usedOf, Foretold, StopsInTime}

@@ -1,6 +1,6 @@
 -- A sample put behind those taken so far fits a byte.
-use Prim.Native.Nat.{ℕ, _+_, _*_, _%_, _^_, _≤_, _<_, min}
-use native.Mathlib.Nat.{mul-le-mul-right, mod-eq-of-lt, one-mul, le-trans}
+use Prim.Native.Nat.{ℕ, _*_, _%_, _^_, _≤_, _<_, min}
+use native.Mathlib.Nat.{mul-le-mul-right, mod-eq-of-lt, one-mul}
 use native.Mathlib.Omega.{arith}
 use mathlib.Core.Path.{_≡_}
 use lib.Pow.{pow-mono}

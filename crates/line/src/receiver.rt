@@ -1,5 +1,6 @@
 // The receiver's part of a pulse.
 use device::CHARACTER;
+use device::FifoControl;
 use device::Frame;
 use device::IDLE;
 use device::Received;
@@ -194,19 +195,19 @@ pub fn hear(s: State) -> Received
     receive(level, r.lcr, v)
 }
 
-// Whether the queue is full.
-fn is_full(s: State) -> bool
-    ensures { λ r. ⌜ r ≡ isFull (capacity (s .fifo)) (s .rx .count) ⌝ }
+// Whether a queue with `count` entries is full.
+fn is_full(f: FifoControl, count: u32) -> bool
+    ensures { λ r. ⌜ r ≡ isFull (capacity f) count ⌝ }
 {
-    let f = s.fifo;
-    fifo::capacity(f) <= s.rx.count
+    fifo::capacity(f) <= count
 }
 
 // Whether a character enters the queue in this pulse, where one ended or not.
 pub fn enters(s: State, ended: bool) -> bool
     ensures { λ r. ⌜ r ≡ (ended && not (isFull (capacity (s .fifo)) (s .rx .count))) ⌝ }
 {
-    let full = is_full(s);
+    let f = s.fifo;
+    let full = is_full(f, s.rx.count);
     flag::both(ended, !full)
 }
 
@@ -225,7 +226,7 @@ fn enter(s: State, e: Entry) -> State
     let q = s.rx;
     let mut l = s.latches;
     let before = l.overrun;
-    l.overrun = overrun(is_full(s), before);
+    l.overrun = overrun(is_full(f, q.count), before);
     let rx = queue::entries::put(q, fifo::capacity(f), e);
     let mut next = s;
     next.rx = rx;

@@ -1,11 +1,17 @@
 // The transmitter's part of a pulse.
+use device::FifoControl;
 use device::Frame;
+use device::Inputs;
+use device::Registers;
 use device::State;
 use device::autoflow;
 ghost use mathlib.Core.Path.{_≡_};
+ghost use mathlib.Core.Bool.{not, _&&_};
 ghost use Prim.Native.Nat.{_<_};
+ghost use lib.Dec.{eqb};
 ghost use Rattle.device.specs.State.{noFrame};
-ghost use Rattle.device.specs.Transmitter.{ready as «ready-of», shiftedOut, loaded, transmitted};
+ghost use Rattle.device.specs.Autoflow.{held};
+ghost use Rattle.device.specs.Transmitter.{shiftedOut, loaded, transmitted};
 
 // No frame is sent.
 fn no_frame() -> Frame
@@ -31,14 +37,12 @@ pub fn shift_out(x: Frame) -> Frame
     next
 }
 
-// Whether a byte is queued and the transmitter is not held.
-pub fn ready(s: State) -> bool
-    ensures { λ r. ⌜ r ≡ «ready-of» s ⌝ }
+// Whether a byte would be loaded, with `count` of them queued: there is one, and the transmitter is
+// not held.
+pub fn ready(count: u32, r: Registers, f: FifoControl, i: Inputs) -> bool
+    ensures { λ b. ⌜ b ≡ (not (eqb count 0) && not (held r f i)) ⌝ }
 {
-    let r = s.registers;
-    let f = s.fifo;
-    let i = s.inputs;
-    flag::both(s.tx.count != 0, !autoflow::held(r, f, i))
+    flag::both(count != 0, !autoflow::held(r, f, i))
 }
 
 // The oldest byte goes into the shift register, in the format of LCR. Emptying the queue sets the
@@ -73,8 +77,11 @@ fn load(s: State) -> State
 pub fn transmit(s: State) -> State
     ensures { λ r. ⌜ r ≡ transmitted s ⌝ }
 {
+    let r = s.registers;
+    let f = s.fifo;
+    let i = s.inputs;
     let x = shift_out(s.frame);
-    if flag::both(x.left == 0, ready(s)) {
+    if flag::both(x.left == 0, ready(s.tx.count, r, f, i)) {
         return load(s);
     }
     let mut next = s;

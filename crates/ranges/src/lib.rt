@@ -21,7 +21,7 @@ ghost use mathlib.Core.Bool.{cond, _&&_};
 ghost use Prim.Native.Nat.{_-_, _^_, _≤_, min};
 ghost use lib.Dec.{leb, ltb, eqb};
 ghost use Rattle.flag.specs.Flag.{every, implies as «implies-of»};
-ghost use Rattle.device.specs.Ranges.{registerRanges, settingRanges, transmitRanges, receiveRanges, latchRanges, queueLatchRanges, flowLatchRanges, characterRanges, outsideRanges, stopPosition, samplesTaken, wellFormed};
+ghost use Rattle.device.specs.Ranges.{registerRanges, settingRanges, transmitRanges, receiveRanges, latchRanges, queueLatchRanges, flowLatchRanges, characterRanges, outsideRanges, wellFormed};
 
 // Where a holds, b does.
 fn implies(a: bool, b: bool) -> bool

@@ -1,5 +1,6 @@
 -- Each way that a turn goes is one tick; the numbers and the queues together are the state so far.
-use Rattle.clock.proofs.Going.{going-quieting, going-pulsing, Going, ticks-stopped, going-start, going-counts, going-quietly, going-eventfully}
+use Rattle.clock.proofs.Going.{Going, going-start, going-quieting, going-pulsing, going-counts, going-quietly, going-eventfully}
+use Rattle.clock.proofs.Ticked.{ticks-stopped}
 use Rattle.device.specs.declared.State.{State}
 use Rattle.device.specs.Autoflow.{settled}
 use Rattle.device.specs.Tick.{pulsed}

@@ -1,5 +1,4 @@
 -- The entry is that of a place not in use.
-use mathlib.Core.Bool.{not}
 use borrow.Author.Needs.{needs}
 use Rattle.line.proofs.receiver.goes_on.Statement.{statement}
 use Rattle.line.proofs.receiver.goes_on.Tie as tie

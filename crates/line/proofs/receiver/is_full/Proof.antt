@@ -9,7 +9,7 @@ capacity-requires c κs = search needs
 
 returns : tie.Need-returns
 unfolding isFull
-returns c = rw (c .before .capacity .ensures .0)
+returns c = rw (c .capacity .ensures .0)
 
 pub is-full-spec : {M : Type 1} → statement M
 is-full-spec = tie.close (tie.spec capacity-requires returns)

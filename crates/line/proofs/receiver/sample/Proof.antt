@@ -5,7 +5,6 @@ use Rattle.frame.specs.Format.{dataBits}
 use Rattle.device.specs.Receiver.{sampled}
 use Prim.Native.Nat.{_<_}
 use mathlib.Core.Path.{_≡_}
-use lib.ListN.{length}
 use native.Mathlib.Omega.{arith}
 use borrow.Author.Tests.{lt-ltb, le-ltb}
 use borrow.Author.Needs.{needs}

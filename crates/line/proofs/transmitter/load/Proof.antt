@@ -1,6 +1,5 @@
 -- The two ways of the definition: the queue empties, or not.
 use Rattle.device.specs.Transmitter.{loaded}
-use lib.ListN.{take}
 use borrow.Author.Tests.{eq-eqb, ne-eqb}
 use borrow.Author.Needs.{needs}
 use Rattle.line.proofs.transmitter.load.Statement.{statement}

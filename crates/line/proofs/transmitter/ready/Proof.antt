@@ -1,5 +1,4 @@
 -- Both tests are the definition's.
-use Rattle.device.specs.Transmitter.{ready}
 use borrow.Author.Needs.{needs}
 use Rattle.line.proofs.transmitter.ready.Statement.{statement}
 use Rattle.line.proofs.transmitter.ready.Tie as tie
@@ -11,7 +10,6 @@ both-requires : tie.Need-both-requires
 both-requires c κs = search needs
 
 returns : tie.Need-returns
-unfolding ready
 returns c = rw (c .both .ensures, c .before .held .ensures)
 
 pub ready-spec : {M : Type 1} → statement M

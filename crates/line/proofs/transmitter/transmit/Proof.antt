@@ -27,16 +27,18 @@ both-requires : tie.Need-both-requires
 both-requires c κs = search needs
 
 load-requires : tie.Need-load-requires
+unfolding ready
 load-requires c κs =
     let r = c .before .before .ready in
-    queued _ (sym (r .ensures) ∙ and-right (eqb (c .before .before .before .before .shift-out .result .left) 0) (r .result) (sym (c .before .both .ensures) ∙ c .if1 .taken))
+    queued (c .before .before .before .before .before .before .before .before .args .s)
+    (sym (r .ensures) ∙ and-right (eqb (c .before .before .before .before .shift-out .result .left) 0) (r .result) (sym (c .before .both .ensures) ∙ c .if1 .taken))
 
 returns : tie.Need-returns
-unfolding transmitted
+unfolding transmitted ready
 returns c = rw (c .load .ensures, ← c .before .before .before .before .before .shift-out .ensures, ← c .before .before .before .ready .ensures, sym (c .before .before .both .ensures) ∙ c .before .if1 .taken)
 
 returns-2 : tie.Need-returns-2
-unfolding transmitted
+unfolding transmitted ready
 returns-2 c = rw (← c .before .before .before .before .shift-out .ensures, ← c .before .before .ready .ensures, sym (c .before .both .ensures) ∙ c .if1 .left)
 
 pub transmit-spec : {M : Type 1} → statement M
