@@ -1,20 +1,19 @@
 -- A replay that agrees: every read saw the model's byte, and the state is that of the steps one by one.
-use Prim.Native.Nat.{ℕ, suc}
+use Prim.Native.Nat.{ℕ}
 use mathlib.Core.Path.{_≡_, refl, sym, ap, _∙_}
-use mathlib.Core.Bool.{Bool, true, false, cond, not, _&&_, true≢false, false≢true}
+use mathlib.Core.Bool.{true, false, not, false≢true}
 use mathlib.Core.List.{List, [], _∷_, _++_}
 use lib.Dec.{eqb}
 use lib.ListN.{length, getD, drop}
 use native.Mathlib.Omega.{arith}
 use borrow.Author.Tests.{eqb-true, not-false}
-use Rattle.recorder.specs.Record.{byte, good, isRead}
+use Rattle.recorder.specs.Record.{byte, isRead}
 use Rattle.device.specs.declared.State.{State}
 use Rattle.step.specs.Record.{stepOf}
 use Rattle.invariant.proofs.Settled.{Kept}
 use Rattle.capture.specs.declared.Outcome.{Outcome}
-use Rattle.capture.specs.declared.Replayed.{Replayed}
 use Rattle.capture.specs.File.{agreeing}
-use Rattle.capture.specs.Replay.{differs, refused, stepsOf, modelByte, differing, replayFrom, Agrees}
+use Rattle.capture.specs.Replay.{stepsOf, modelByte, differing, replayFrom, Agrees}
 use Rattle.step.proofs.Laws.{step-kept}
 use Rattle.capture.proofs.Ways.{each-way}
 

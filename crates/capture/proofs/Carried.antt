@@ -1,15 +1,14 @@
 -- A file that comes in parts: the records of one part and then those of the next answer as all of them at once.
-use Prim.Native.Nat.{ℕ, suc, _+_, _-_, _*_, _/_, _%_, _^_, _≤_, _<_, zero-le}
+use Prim.Native.Nat.{ℕ, suc, _+_, _-_, _*_, _/_, _%_, _≤_, _<_, zero-le}
 use mathlib.Core.Path.{_≡_, refl, sym, ap, _∙_}
 use mathlib.Core.Bool.{Bool, true, false, cond, not, _&&_, false≢true}
 use mathlib.Core.List.{List, [], _∷_, _++_}
 use lib.Dec.{eqb}
-use lib.ListN.{length, take, drop, length-append, length-drop}
+use lib.ListN.{length, drop, length-append}
 use lib.Seq.{take-all, take-at, drop-at}
 use native.Mathlib.Omega.{arith}
 use borrow.Author.Tests.{ne-eqb}
 use Rattle.flag.proofs.Laws.{cond-map}
-use Rattle.recorder.specs.Record.{good}
 use Rattle.recorder.specs.File.{wordsOf, known}
 use Rattle.recorder.proofs.Laws.{no-words, left, length-words, length-left, words-append}
 use Rattle.device.specs.declared.State.{State}
@@ -19,7 +18,7 @@ use Rattle.device.specs.Ranges.{wellFormed}
 use Rattle.capture.specs.declared.Outcome.{Outcome}
 use Rattle.capture.specs.declared.Replayed.{Replayed}
 use Rattle.capture.specs.declared.parts.Progress.{Progress}
-use Rattle.capture.specs.Replay.{agreed, refused, valuesOf, differing, replayFrom, replayOf}
+use Rattle.capture.specs.Replay.{agreed, refused, valuesOf, replayFrom, replayOf}
 use Rattle.capture.specs.File.{agreeing, later, onward, ended, recordsOf, headedOf, captureOf, restOf, Ready}
 use Rattle.capture.proofs.Ways.{each-way}
 

@@ -1,7 +1,7 @@
 -- Replay record by record.
 use Prim.Native.Nat.{ℕ, suc, _+_, _≤_, _<_}
 use mathlib.Core.Path.{_≡_, refl, sym, ap, _∙_}
-use mathlib.Core.Bool.{Bool, true, false, cond, not, _&&_}
+use mathlib.Core.Bool.{Bool, true, false, not, _&&_}
 use mathlib.Core.List.{List, [], _∷_}
 use lib.Dec.{ltb, eqb}
 use lib.ListN.{length, drop, getD, drop-of-length-le}
@@ -15,7 +15,6 @@ use Rattle.invariant.proofs.Settled.{Kept}
 use Rattle.step.specs.declared.Shown.{Shown}
 use Rattle.step.specs.Record.{stepOf}
 use Rattle.step.proofs.Laws.{step-kept}
-use Rattle.capture.specs.declared.Replayed.{Replayed}
 use Rattle.capture.specs.Replay.{agreed, differs, refused, modelByte, differing, replayFrom, goodAt, stoppedAt}
 
 -- A good record stands at a place: the place lies within the records, and the record there is good.

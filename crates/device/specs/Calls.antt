@@ -2,11 +2,9 @@
 -- formed; 2 register address above 7; 3 SIN above 1 or modem pins above 15. Lowest number first. A refusal hands the
 -- state back as it was, every other result 0.
 use Prim.Native.Nat.{ℕ, zero, suc}
-use mathlib.Core.Bool.{Bool, cond}
+use mathlib.Core.Bool.{cond}
 use lib.Dec.{leb, eqb}
-use Rattle.device.specs.declared.Inputs.{Inputs}
 use Rattle.device.specs.declared.Reading.{Reading}
-use Rattle.device.specs.declared.Outputs.{Outputs}
 use Rattle.device.specs.declared.Answer.{Answer}
 use Rattle.device.specs.declared.Looked.{Looked}
 use Rattle.device.specs.declared.State.{State}

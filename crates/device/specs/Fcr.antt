@@ -1,5 +1,5 @@
 -- FCR, FIFO control register (SLLS191C and 003, "FIFO control register (FCR)"; document 01, "FCR write").
-use Prim.Native.Nat.{ℕ, _/_, _%_}
+use Prim.Native.Nat.{ℕ, _/_}
 use mathlib.Core.Bool.{Bool, cond, _&&_, _||_}
 use lib.Dec.{eqb}
 use Rattle.flag.specs.Flag.{on, bit, bitOf, differ}

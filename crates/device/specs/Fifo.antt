@@ -1,6 +1,6 @@
 -- What the FIFO's settings mean (SLLS191C, "FIFO control register (FCR)"; document 01, "The state" and "Trigger").
 use Prim.Native.Nat.{ℕ}
-use mathlib.Core.Bool.{Bool, cond}
+use mathlib.Core.Bool.{cond}
 use lib.Dec.{eqb}
 use Rattle.flag.specs.Flag.{on}
 use Rattle.device.specs.declared.FifoControl.{FifoControl}

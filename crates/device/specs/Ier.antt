@@ -1,6 +1,6 @@
 -- IER, interrupt enable register (SLLS191C, "interrupt enable register (IER)"; document 01, "IER write").
 use Prim.Native.Nat.{ℕ, _%_}
-use mathlib.Core.Bool.{Bool, cond, not, _&&_}
+use mathlib.Core.Bool.{cond, not, _&&_}
 use lib.Dec.{eqb}
 use Rattle.flag.specs.Flag.{bit}
 use Rattle.device.specs.declared.State.{State}

@@ -1,6 +1,6 @@
 -- IIR, interrupt identification register (002, table 5; document 01, "Interrupts" and "IIR read").
 use Prim.Native.Nat.{ℕ, _+_}
-use mathlib.Core.Bool.{Bool, cond, not, _&&_, _||_}
+use mathlib.Core.Bool.{Bool, cond, _&&_, _||_}
 use lib.Dec.{leb, ltb, eqb}
 use Rattle.flag.specs.Flag.{on, bit}
 use Rattle.queue.specs.Queue.{hasError}

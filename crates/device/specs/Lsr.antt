@@ -1,6 +1,6 @@
 -- LSR, line status register (SLLS191C, "line status register (LSR)"; document 01, "LSR read").
 use Prim.Native.Nat.{ℕ}
-use mathlib.Core.Bool.{Bool, cond, _&&_}
+use mathlib.Core.Bool.{Bool, _&&_}
 use mathlib.Core.List.{[], _∷_}
 use lib.Dec.{ltb, eqb}
 use lib.ListN.{set}

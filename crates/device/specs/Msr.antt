@@ -1,5 +1,5 @@
 -- MSR, modem status register (SLLS191C, "modem status register (MSR)"; document 01, "MSR read").
-use Prim.Native.Nat.{ℕ, _+_, _*_}
+use Prim.Native.Nat.{_+_, _*_}
 use Rattle.device.specs.declared.Reading.{Reading}
 use Rattle.device.specs.declared.State.{State}
 use Rattle.device.specs.State.{withLatches, withChanges}

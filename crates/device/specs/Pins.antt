@@ -1,6 +1,6 @@
 -- The output pins (SLLS191C, "terminal functions"; 003, loopback; document 01, "Loopback" and "Interrupts").
 use Prim.Native.Nat.{ℕ}
-use mathlib.Core.Bool.{Bool, cond, not, _&&_}
+use mathlib.Core.Bool.{cond, not, _&&_}
 use lib.Dec.{eqb}
 use Rattle.flag.specs.Flag.{on, bit, bitOf}
 use Rattle.device.specs.declared.Outputs.{Outputs}

@@ -2,7 +2,7 @@
 -- range that joins two groups stands in the later one. That an array has 64 places and a byte is below 256 is what the
 -- types of src/lib.rt say, and no range.
 use Prim.Native.Nat.{ℕ, _+_, _-_, _*_, _/_, _^_, min}
-use mathlib.Core.Bool.{Bool, true, cond, not, _&&_, _||_}
+use mathlib.Core.Bool.{Bool, cond, not, _&&_, _||_}
 use mathlib.Core.List.{List, [], _∷_, _++_}
 use lib.Dec.{leb, ltb, eqb}
 use Rattle.flag.specs.Flag.{on, bit, every, implies}

@@ -1,8 +1,8 @@
 -- The receiver's part of a pulse, on SIN or the looped line (document 01, "A tick", 2, and "Receiver").
-use Prim.Native.Nat.{ℕ, _+_, _-_, _*_, _/_, _%_, _^_}
+use Prim.Native.Nat.{ℕ, _+_, _-_, _*_, _%_, _^_}
 use mathlib.Core.Bool.{Bool, true, false, cond, not, _&&_}
 use lib.Dec.{ltb, eqb}
-use Rattle.flag.specs.Flag.{bitOf, on}
+use Rattle.flag.specs.Flag.{bitOf}
 use Rattle.frame.specs.Format.{formatOf, dataBits, parityBits, parityBit}
 use Rattle.queue.specs.declared.Entry.{Entry}
 use Rattle.queue.specs.Queue.{noEntry, putEntry, isFull}

@@ -1,5 +1,5 @@
 -- A tick of the clock (document 01, "A tick").
-use Prim.Native.Nat.{ℕ, _-_}
+use Prim.Native.Nat.{_-_}
 use mathlib.Core.Bool.{cond}
 use lib.Dec.{eqb}
 use Rattle.device.specs.declared.State.{State}

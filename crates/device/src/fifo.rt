@@ -1,7 +1,7 @@
 // What the FIFO's settings mean.
 use crate::FifoControl;
 ghost use mathlib.Core.Path.{_≡_};
-ghost use Prim.Native.Nat.{_≤_, _<_};
+ghost use Prim.Native.Nat.{_≤_};
 ghost use Rattle.device.specs.Fifo.{capacity as «capacity-of», triggerLevel, byCode};
 
 // The capacity of each queue: 1, 16 or 64.

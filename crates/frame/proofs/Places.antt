@@ -6,7 +6,7 @@ use native.Mathlib.Decide.{decLt}
 use native.Mathlib.Omega.{arith}
 use mathlib.Core.Path.{_≡_, ap, _∙_}
 use mathlib.Core.List.{List, [], _∷_, _++_}
-use lib.ListN.{length, getD, List·getD-append, List·getD-eq-default}
+use lib.ListN.{length, getD, List·getD-append}
 use lib.Seq.{getD-append-add, getD-drop}
 use lib.Dec.{ltb}
 use Rattle.flag.proofs.Laws.{by-test}
@@ -14,7 +14,7 @@ use Rattle.frame.specs.Format.{frameLength}
 use Rattle.frame.specs.Frame.{frameLevels, last}
 use Rattle.frame.specs.Forecast.{pulsesLeft, queuedLevels, spelled}
 use Rattle.frame.proofs.Frames.{frame-length-bounds, length-frame-levels}
-use Rattle.frame.proofs.Spelled.{spelled-nothing, spelled-waiting, spelled-sending, length-rest, length-spelled}
+use Rattle.frame.proofs.Spelled.{spelled-nothing, spelled-waiting, spelled-sending, length-rest}
 
 -- in the current frame: the place F − L + q of it
 pub level-in-current : (l x g f q : ℕ) (bs : List ℕ) → l ≤ frameLength g → q < l

@@ -1,7 +1,7 @@
 -- What a format means. A format is bits 0..5 of LCR, a number 0..63 (document 01, "The state").
 -- Sheet: SLLS191C, "line control register (LCR)", tables 6 and 7.
 use Prim.Native.Nat.{ℕ, zero, suc, _+_, _*_, _/_, _%_, _^_}
-use mathlib.Core.Bool.{Bool, true, cond, not}
+use mathlib.Core.Bool.{cond, not}
 use lib.Dec.{eqb}
 use Rattle.flag.specs.Flag.{bit, bitOf}
 

@@ -1,5 +1,5 @@
 -- A tick keeps a sound state sound.
-use Prim.Native.Nat.{ℕ, zero, suc, _+_, _-_, _*_, _/_, min, _≤_}
+use Prim.Native.Nat.{ℕ, zero, suc, _+_, _-_, _/_, min, _≤_}
 use mathlib.Core.Path.{_≡_, refl, _∙_}
 use mathlib.Core.Bool.{Bool, true, cond, not, _&&_}
 use lib.Dec.{ltb, eqb}
@@ -16,9 +16,7 @@ use Rattle.frame.proofs.Frames.{frame-length-bounds, level-start, level-data, l
 use Rattle.queue.specs.declared.Entry.{Entry}
 use Rattle.queue.specs.Queue.{countPut, isFull, takeByte, putEntry, flagsInRange}
 use Rattle.queue.proofs.Contents.{length-put, length-shifted}
-use Rattle.device.specs.declared.FifoControl.{FifoControl}
 use Rattle.device.specs.declared.Frame.{Frame}
-use Rattle.device.specs.declared.Latches.{Latches}
 use Rattle.device.specs.declared.State.{State}
 use Rattle.device.specs.State.{withFrame, withTx, withLatches, withEmpty, withTimeout, withIdle, withK}
 use Rattle.device.specs.Fifo.{capacity}
@@ -27,8 +25,8 @@ use Rattle.device.specs.Transmitter.{loaded, ready, shiftedOut, transmitted}
 use Rattle.device.specs.Receiver.{heard, reception, enters, entered, accepted, received}
 use Rattle.device.specs.Idle.{counts, timeOutAt, counted, idled}
 use Rattle.device.specs.Tick.{pulsed, ticked}
-use Rattle.invariant.proofs.Tests.{or-neither, bit-most}
-use Rattle.invariant.proofs.Good.{FrameFacts, EmptyFacts, WaitFacts, LatchFacts, latches-empty, latches-wait, latches-overrun}
+use Rattle.invariant.proofs.Tests.{bit-most}
+use Rattle.invariant.proofs.Good.{FrameFacts, EmptyFacts, LatchFacts, latches-empty, latches-wait, latches-overrun}
 use Rattle.invariant.proofs.Settled.{Sound}
 use Rattle.invariant.proofs.Parts.{sound-registers, sound-transmit, sound-receive, sound-frame, sound-receiver, sound-latches, transmit-taken, receive-put, latches-more}
 use Rattle.invariant.proofs.Reception.{receive-facts}

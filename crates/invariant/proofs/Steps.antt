@@ -13,11 +13,10 @@ use Rattle.device.specs.declared.Answer.{Answer}
 use Rattle.device.specs.declared.State.{State}
 use Rattle.device.specs.State.{freshOf, resetState}
 use Rattle.device.specs.Fifo.{capacity, triggerLevel}
-use Rattle.device.specs.Autoflow.{autoflow, autoRts, settled}
+use Rattle.device.specs.Autoflow.{autoflow, autoRts}
 use Rattle.device.specs.Ranges.{wellFormed}
-use Rattle.device.specs.Tick.{ticked}
 use Rattle.device.specs.Calls.{done, resetOf, readOf, writeOf, sinOf, modemOf, tickOf, ticksOf}
-use Rattle.invariant.proofs.Good.{Good, good-of, Places}
+use Rattle.invariant.proofs.Good.{good-of, Places}
 use Rattle.invariant.proofs.Settled.{Sound, sound-of, Kept, settled-kept}
 use Rattle.invariant.proofs.Parts.{sound-inputs, transmit-none, receive-none}
 use Rattle.invariant.proofs.Registers.{levels-sound, read-sound, write-sound}

@@ -13,8 +13,7 @@ use lib.Dec.{ltb, leb, eqb}
 use borrow.Author.Tests.{lt-ltb, le-ltb, le-leb, leb-true, not-true, not-false}
 use Rattle.flag.specs.Flag.{allOf, anyOf}
 use Rattle.flag.proofs.Laws.{and-left, and-right}
-use Rattle.queue.specs.declared.ByteQueue.{ByteQueue}
-use Rattle.queue.specs.Queue.{placesPut, countPut, isFull, shifted, contents}
+use Rattle.queue.specs.Queue.{placesPut, countPut, shifted, contents}
 
 -- the length of an array of structs, from what owning it tells
 pub length-mapped : {A B : Type 0} (f : A → B) (xs : List A) (n : ℕ) → length (map f xs) ≡ n → length xs ≡ n

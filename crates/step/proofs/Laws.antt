@@ -1,15 +1,13 @@
 -- A step on a well-formed state, and the step of a record by its kind.
-use Prim.Native.Nat.{ℕ, _≤_}
+use Prim.Native.Nat.{ℕ}
 use mathlib.Core.Path.{_≡_, refl, sym, ap, _∙_}
-use mathlib.Core.Bool.{Bool, true, false, cond, true≢false}
+use mathlib.Core.Bool.{Bool, true, false, cond}
 use lib.Dec.{leb, eqb}
 use native.Mathlib.Omega.{arith}
 use borrow.Author.Tests.{le-leb, ne-eqb, eqb-true, not-true}
 use Rattle.flag.proofs.Laws.{by-test}
-use Rattle.recorder.specs.Record.{kind, byKind, count, address, byte, sin, modem, isRead}
-use Rattle.device.specs.declared.Answer.{Answer}
+use Rattle.recorder.specs.Record.{kind, count, address, byte, sin, modem, isRead}
 use Rattle.device.specs.declared.Inputs.{Inputs}
-use Rattle.device.specs.declared.Latches.{Latches}
 use Rattle.device.specs.declared.State.{State}
 use Rattle.device.specs.State.{withInputs, withTx, withLatches, withEmpty, resetState}
 use Rattle.device.specs.Fifo.{capacity}

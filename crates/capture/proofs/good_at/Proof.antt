@@ -1,6 +1,5 @@
 -- Beyond the records no record stands.
 use Rattle.capture.specs.Replay.{goodAt}
-use mathlib.Core.Path.{sym, _∙_}
 use Prim.Native.Nat.{_-_}
 use borrow.Author.Tests.{lt-ltb, le-ltb}
 use borrow.Author.Needs.{needs}

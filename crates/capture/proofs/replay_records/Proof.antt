@@ -1,6 +1,6 @@
 -- What is left to replay from the current state answers as the whole does.
 use Rattle.queue.proofs.Laws.{length-mapped}
-use Rattle.recorder.specs.Record.{isRead, byte}
+use Rattle.recorder.specs.Record.{byte}
 use Rattle.device.specs.declared.Numbers.{Numbers}
 use Rattle.device.specs.declared.State.{State}
 use Rattle.device.specs.State.{withRegisters, withBaud, withTx, withLatches}
@@ -12,7 +12,7 @@ use Rattle.capture.specs.Replay.{modelByte, differing, goodAt, stoppedAt
 use Rattle.capture.proofs.Laws.{Replaying, good-within, good-there, is-differing, replay-turns, replay-stops}
 use mathlib.Core.Path.{_≡_, refl, sym, ap, subst, _∙_}
 use mathlib.Core.Logic.{⊎-elim}
-use mathlib.Core.Bool.{Bool, true, false, true≢false}
+use mathlib.Core.Bool.{true, false, true≢false}
 use Prim.Native.Nat.{ℕ, _+_, _-_, _<_}
 use lib.ListN.{length, getD}
 use native.Mathlib.Omega.{arith}

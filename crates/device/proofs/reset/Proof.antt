@@ -1,6 +1,6 @@
 -- The fresh state with the three parts that reset keeps or sets.
 use borrow.Author.Needs.{needs}
-use Rattle.device.specs.State.{freshOf, resetState}
+use Rattle.device.specs.State.{resetState}
 use Rattle.device.proofs.reset.Statement.{statement}
 use Rattle.device.proofs.reset.Tie as tie
 

@@ -1,9 +1,5 @@
 -- The level at the place that the formula gives, which is that after the ticks.
-use Rattle.device.specs.Forecast.{levelToCome, forecastNumber, levelOf}
-use Rattle.forecast.proofs.Asked.{forecast-well, forecast-ranged, forecast-clocked}
-use Rattle.forecast.proofs.Foretold.{foretold}
-use Rattle.invariant.proofs.Settled.{Kept}
-use Rattle.queue.proofs.Laws.{length-mapped}
+use Rattle.device.specs.Forecast.{forecastNumber, levelOf}
 use mathlib.Core.Path.{_≡_, sym, _∙_}
 use borrow.Author.Tests.{eq-eqb, ne-eqb}
 use borrow.Author.Needs.{needs}

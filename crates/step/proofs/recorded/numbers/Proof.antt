@@ -1,6 +1,5 @@
 -- The write's numbers on a well-formed state.
 use Rattle.step.proofs.Laws.{write-step}
-use mathlib.Core.Path.{sym}
 use Prim.Native.Nat.{_-_}
 use borrow.Author.Needs.{needs}
 use Rattle.step.proofs.recorded.numbers.Statement.{statement}

@@ -1,6 +1,5 @@
 -- A write to THR, which the rules that end a step leave as it is.
 use Rattle.step.proofs.Laws.{thr-step}
-use mathlib.Core.Path.{sym}
 use Prim.Native.Nat.{_-_}
 use Rattle.device.specs.Thr.{thrWrite}
 use borrow.Author.Needs.{needs}

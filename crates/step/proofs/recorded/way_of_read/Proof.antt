@@ -1,6 +1,5 @@
 -- A read whose registers' state stays changes nothing.
 use Rattle.step.proofs.Laws.{nothing-way}
-use mathlib.Core.Path.{_≡_, ap, sym, _∙_}
 use Prim.Native.Nat.{_-_}
 use native.Mathlib.Omega.{arith}
 use borrow.Author.Needs.{needs}
