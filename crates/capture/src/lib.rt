@@ -23,12 +23,6 @@ pub enum Outcome {
     Refused { number: u8, place: usize },
 }
 
-// What a replay answers: the state in which it ended, and how.
-pub struct Replayed {
-    pub state: State,
-    pub outcome: Outcome,
-}
-
 // An outcome as document 01's number and values.
 #[repr(C)]
 pub struct Values {
@@ -36,6 +30,12 @@ pub struct Values {
     pub seen: u8,
     pub model: u8,
     pub place: usize,
+}
+
+// What a replay answers: the state in which it ended, and how.
+pub struct Replayed {
+    pub state: State,
+    pub outcome: Outcome,
 }
 
 // The number and the values of an outcome.

@@ -44,6 +44,16 @@ pub struct Inputs {
     pub sin: u8,
 }
 
+// The state with the input pins as given.
+pub fn with_inputs(s: State, modem: u8, sin: u8) -> State
+    ensures { λ r. ⌜ r ≡ withInputs s (record { modem = modem; sin = sin }) ⌝ }
+{
+    let i = Inputs { modem, sin };
+    let mut next = s;
+    next.inputs = i;
+    next
+}
+
 // The transmitter shift register: L, the pulses left of the frame now sent, with its byte and
 // format; all zero where nothing is sent.
 #[repr(C)]
@@ -64,6 +74,13 @@ pub struct Receiver {
     pub position: u32,
 }
 
+// The phases of the receiver.
+pub const IDLE: u8 = 0;
+
+pub const WAITING: u8 = 1;
+
+pub const CHARACTER: u8 = 2;
+
 // The transmit-empty latch, OE, the time-out latch, the change bits of MSR (bits 0..3: CTS, DSR,
 // RI, DCD), RTS hold, and the idle count.
 #[repr(C)]
@@ -74,6 +91,15 @@ pub struct Latches {
     pub changes: u8,
     pub hold: u8,
     pub idle: u32,
+}
+
+// The latches with the transmit-empty latch as given.
+pub fn with_empty(l: Latches, empty: u8) -> Latches
+    ensures { λ r. ⌜ r ≡ withEmpty l empty ⌝ }
+{
+    let mut next = l;
+    next.empty = empty;
+    next
 }
 
 #[repr(C)]
@@ -87,82 +113,6 @@ pub struct State {
     pub rx: EntryQueue,
     pub receiver: Receiver,
     pub latches: Latches,
-}
-
-// The phases of the receiver.
-pub const IDLE: u8 = 0;
-
-pub const WAITING: u8 = 1;
-
-pub const CHARACTER: u8 = 2;
-
-// What a register read gives: the byte, and the state after it.
-pub struct Reading {
-    pub byte: u8,
-    pub state: State,
-}
-
-// The numbers that a write sets which reaches no queue.
-pub struct Numbers {
-    pub registers: Registers,
-    pub baud: Baud,
-    pub latches: Latches,
-}
-
-// What a pulse makes of the receiver: its next state, and the entry of a character that ended.
-pub struct Received {
-    pub receiver: Receiver,
-    pub ended: bool,
-    pub entry: queue::Entry,
-}
-
-// The output pins as levels (SOUT, INTRPT: 1 is high; the others: 1 is asserted).
-#[repr(C)]
-pub struct Outputs {
-    pub sout: u8,
-    pub rts: u8,
-    pub dtr: u8,
-    pub out1: u8,
-    pub out2: u8,
-    pub intrpt: u8,
-}
-
-// What a step answers.
-#[repr(C)]
-pub struct Answer {
-    pub number: u8,
-    pub byte: u8,
-    pub outputs: Outputs,
-    pub state: State,
-}
-
-// What the look at the pins answers.
-#[repr(C)]
-pub struct Looked {
-    pub number: u8,
-    pub outputs: Outputs,
-}
-
-// What the forecast answers: T, the ticks until queue and shift register are both empty.
-#[repr(C)]
-pub struct Forecasted {
-    pub number: u8,
-    pub ticks: u32,
-}
-
-// What the call for the line's level answers.
-#[repr(C)]
-pub struct Leveled {
-    pub number: u8,
-    pub level: u8,
-}
-
-// What run answers: the ticks used, and the state after them.
-#[repr(C)]
-pub struct Ran {
-    pub number: u8,
-    pub used: u32,
-    pub state: State,
 }
 
 // The fresh state.
@@ -227,21 +177,71 @@ pub fn reset(s: State) -> State
     next
 }
 
-// The state with the input pins as given.
-pub fn with_inputs(s: State, modem: u8, sin: u8) -> State
-    ensures { λ r. ⌜ r ≡ withInputs s (record { modem = modem; sin = sin }) ⌝ }
-{
-    let i = Inputs { modem, sin };
-    let mut next = s;
-    next.inputs = i;
-    next
+// The numbers that a write sets which reaches no queue.
+pub struct Numbers {
+    pub registers: Registers,
+    pub baud: Baud,
+    pub latches: Latches,
 }
 
-// The latches with the transmit-empty latch as given.
-pub fn with_empty(l: Latches, empty: u8) -> Latches
-    ensures { λ r. ⌜ r ≡ withEmpty l empty ⌝ }
-{
-    let mut next = l;
-    next.empty = empty;
-    next
+// What a register read gives: the byte, and the state after it.
+pub struct Reading {
+    pub byte: u8,
+    pub state: State,
+}
+
+// What a pulse makes of the receiver: its next state, and the entry of a character that ended.
+pub struct Received {
+    pub receiver: Receiver,
+    pub ended: bool,
+    pub entry: queue::Entry,
+}
+
+// The output pins as levels (SOUT, INTRPT: 1 is high; the others: 1 is asserted).
+#[repr(C)]
+pub struct Outputs {
+    pub sout: u8,
+    pub rts: u8,
+    pub dtr: u8,
+    pub out1: u8,
+    pub out2: u8,
+    pub intrpt: u8,
+}
+
+// What the look at the pins answers.
+#[repr(C)]
+pub struct Looked {
+    pub number: u8,
+    pub outputs: Outputs,
+}
+
+// What the forecast answers: T, the ticks until queue and shift register are both empty.
+#[repr(C)]
+pub struct Forecasted {
+    pub number: u8,
+    pub ticks: u32,
+}
+
+// What the call for the line's level answers.
+#[repr(C)]
+pub struct Leveled {
+    pub number: u8,
+    pub level: u8,
+}
+
+// What run answers: the ticks used, and the state after them.
+#[repr(C)]
+pub struct Ran {
+    pub number: u8,
+    pub used: u32,
+    pub state: State,
+}
+
+// What a step answers.
+#[repr(C)]
+pub struct Answer {
+    pub number: u8,
+    pub byte: u8,
+    pub outputs: Outputs,
+    pub state: State,
 }

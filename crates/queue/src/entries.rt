@@ -32,52 +32,6 @@ pub fn clear() -> EntryQueue
     }
 }
 
-// The queue of this capacity with e behind the last entry. A full one keeps its entries, but a
-// queue of one place has its entry replaced.
-pub fn put(q: EntryQueue, capacity: u32, e: Entry) -> EntryQueue
-    requires { ⌜ capacity ≤ 64 ⌝ }
-    ensures { λ r. ⌜ r ≡ putEntry capacity q e ⌝ }
-{
-    let mut next = q;
-    let count = next.count;
-    if keeps(count, capacity) {
-        return next;
-    }
-    let at = next_place(count, capacity);
-    next.entries[at] = e;
-    next.count = count_after(count, capacity);
-    next
-}
-
-// The entries one place down, the oldest gone and the last place zero.
-fn shift(entries: [Entry; 64]) -> [Entry; 64]
-    ensures { λ r. ⌜ r ≡ shifted noEntry entries ⌝ }
-{
-    let e = none();
-    let mut next = entries;
-    let mut i: usize = 0;
-    while i < limits::LAST_PLACE {
-        let x = next[i + 1];
-        next[i] = x;
-        i += 1;
-    }
-    next[limits::LAST_PLACE] = e;
-    next
-}
-
-// The queue without its oldest entry.
-pub fn take(q: EntryQueue) -> EntryQueue
-    requires { ⌜ 0 < q .count ⌝ }
-    ensures { λ r. ⌜ r ≡ takeEntry q ⌝ }
-{
-    let entries = q.entries;
-    let count = q.count;
-    EntryQueue {
-        entries: shift(entries),
-        count: count - 1,
-    }
-}
-
 // Whether the entry is that of a place not in use.
 fn is_zero(e: Entry) -> bool
     ensures { λ r. ⌜ r ≡ zeroEntry e ⌝ }
@@ -94,6 +48,20 @@ fn is_zero(e: Entry) -> bool
     e.bi == 0
 }
 
+// Whether every place from `count` on is zero.
+pub fn rest_is_zero(q: EntryQueue) -> bool
+    ensures { λ r. ⌜ r ≡ entryRest q ⌝ }
+{
+    let mut zero = true;
+    let mut i = q.count as usize;
+    while i < limits::PLACES {
+        let e = q.entries[i];
+        zero = flag::both(zero, is_zero(e));
+        i += 1;
+    }
+    zero
+}
+
 // Whether the entry's flags are each 0 or 1.
 fn flags_in_range(e: Entry) -> bool
     ensures { λ r. ⌜ r ≡ flagsInRange e ⌝ }
@@ -105,6 +73,20 @@ fn flags_in_range(e: Entry) -> bool
         return false;
     }
     e.bi <= 1
+}
+
+// Whether the flags of every entry are each 0 or 1.
+pub fn flags_are_bits(q: EntryQueue) -> bool
+    ensures { λ r. ⌜ r ≡ entryFlags q ⌝ }
+{
+    let mut bits = true;
+    let mut i: usize = 0;
+    while i < limits::PLACES {
+        let e = q.entries[i];
+        bits = flag::both(bits, flags_in_range(e));
+        i += 1;
+    }
+    bits
 }
 
 // Whether the entry has an error.
@@ -120,32 +102,21 @@ pub fn has_error(e: Entry) -> bool
     e.bi == 1
 }
 
-// Whether every place from `count` on is zero.
-pub fn rest_is_zero(q: EntryQueue) -> bool
-    ensures { λ r. ⌜ r ≡ entryRest q ⌝ }
+// The queue of this capacity with e behind the last entry. A full one keeps its entries, but a
+// queue of one place has its entry replaced.
+pub fn put(q: EntryQueue, capacity: u32, e: Entry) -> EntryQueue
+    requires { ⌜ capacity ≤ 64 ⌝ }
+    ensures { λ r. ⌜ r ≡ putEntry capacity q e ⌝ }
 {
-    let mut zero = true;
-    let mut i = q.count as usize;
-    while i < limits::PLACES {
-        let e = q.entries[i];
-        zero = flag::both(zero, is_zero(e));
-        i += 1;
+    let count = q.count;
+    if keeps(count, capacity) {
+        return q;
     }
-    zero
-}
-
-// Whether the flags of every entry are each 0 or 1.
-pub fn flags_are_bits(q: EntryQueue) -> bool
-    ensures { λ r. ⌜ r ≡ entryFlags q ⌝ }
-{
-    let mut bits = true;
-    let mut i: usize = 0;
-    while i < limits::PLACES {
-        let e = q.entries[i];
-        bits = flag::both(bits, flags_in_range(e));
-        i += 1;
-    }
-    bits
+    let mut next = q;
+    let at = next_place(count, capacity);
+    next.entries[at] = e;
+    next.count = count_after(count, capacity);
+    next
 }
 
 // The places in use of a queue with this count.
@@ -172,4 +143,32 @@ pub fn any_error(q: EntryQueue) -> bool
         i += 1;
     }
     error
+}
+
+// The queue without its oldest entry.
+pub fn take(q: EntryQueue) -> EntryQueue
+    requires { ⌜ 0 < q .count ⌝ }
+    ensures { λ r. ⌜ r ≡ takeEntry q ⌝ }
+{
+    let entries = q.entries;
+    EntryQueue {
+        entries: shift(entries),
+        count: q.count - 1,
+    }
+}
+
+// The entries one place down, the oldest gone and the last place zero.
+fn shift(entries: [Entry; 64]) -> [Entry; 64]
+    ensures { λ r. ⌜ r ≡ shifted noEntry entries ⌝ }
+{
+    let e = none();
+    let mut next = entries;
+    let mut i: usize = 0;
+    while i < limits::LAST_PLACE {
+        let x = next[i + 1];
+        next[i] = x;
+        i += 1;
+    }
+    next[limits::LAST_PLACE] = e;
+    next
 }

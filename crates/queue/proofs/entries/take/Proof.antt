@@ -6,7 +6,7 @@ use Rattle.queue.proofs.entries.take.Tie as tie
 
 returns : tie.Need-returns
 unfolding takeEntry
-returns c = rw (c .shift .ensures)
+returns c = rw (c .before .shift .ensures)
 
 pub take-spec : {M : Type 1} → statement M
 take-spec = tie.close (tie.spec (λ c κs. search needs) (λ c. search needs) returns)
