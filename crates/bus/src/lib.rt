@@ -4,10 +4,10 @@
 // reach a queue stands in the invariant's specs/Touch.antt. An address above 7 is taken for 7.
 use device::Numbers;
 use device::State;
+use interrupts::iir;
 use registers::divisor;
 use registers::fcr;
 use registers::ier;
-use registers::iir;
 use registers::lcr;
 use registers::lsr;
 use registers::mcr;

@@ -13,10 +13,9 @@ use Rattle.queue.specs.Queue.{noEntry}
 use Rattle.device.specs.declared.Registers.{Registers}
 use Rattle.device.specs.declared.Inputs.{Inputs}
 use Rattle.device.specs.declared.State.{State}
-use Rattle.device.specs.State.{withLatches, withEmpty, withChanges}
+use Rattle.device.specs.State.{withLatches, withChanges}
 use Rattle.device.specs.Modem.{loopback, effectiveLevels}
 use Rattle.device.specs.Rbr.{oldest, rbrRead}
-use Rattle.device.specs.Iir.{iirRead, interruptCode}
 use Rattle.device.specs.Lsr.{clearErrors, lsrRead}
 use Rattle.device.specs.Msr.{msrRead}
 
@@ -41,13 +40,6 @@ levels-most r i h =
 pub rbr-kept : (s : State) → eqb (s .rx .count) 0 ≡ true → rbrRead s .state ≡ s
 unfolding rbrRead
 rbr-kept s e = simp e
-
-pub iir-kept : (s : State) → s .latches .empty ≡ 0 → iirRead s .state ≡ s
-unfolding iirRead
-iir-kept s e =
-    by-test (λ (t : State). t ≡ s) (eqb (interruptCode s) 2) _ _
-    (λ _. ap (λ (n : ℕ). withLatches s (withEmpty (s .latches) n)) (sym e))
-    (λ _. refl)
 
 pub msr-kept : (s : State) → s .latches .changes ≡ 0 → msrRead s .state ≡ s
 unfolding msrRead

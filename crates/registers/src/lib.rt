@@ -1,17 +1,14 @@
-// The registers: for each its byte, what a read changes of the state, and its write. The output pins
-// stand beside them; the interrupts stand with IIR.
+// The registers but IIR: for each its byte, what a read changes of the state, and its write.
 //
 // A module for each register, named as the sheet names it. The definitions that the contracts cite
-// are the device's; the crate `bus` has the registers by address.
+// are the device's. IIR is in the crate `interrupts`; the crate `bus` has the registers by address.
 pub mod divisor;
 pub mod fcr;
 pub mod ier;
-pub mod iir;
 pub mod lcr;
 pub mod lsr;
 pub mod mcr;
 pub mod msr;
-pub mod pins;
 pub mod rbr;
 pub mod scr;
 pub mod thr;

@@ -3,8 +3,8 @@ use Rattle.device.specs.Pins.{intrpt, outputs}
 use borrow.Author.Tests.{not-true, not-false}
 use mathlib.Core.Path.{sym, _∙_}
 use borrow.Author.Needs.{needs}
-use Rattle.registers.proofs.pins.outputs.Statement.{statement}
-use Rattle.registers.proofs.pins.outputs.Tie as tie
+use Rattle.interrupts.proofs.pins.outputs.Statement.{statement}
+use Rattle.interrupts.proofs.pins.outputs.Tie as tie
 
 returns : tie.Need-returns
 unfolding intrpt outputs

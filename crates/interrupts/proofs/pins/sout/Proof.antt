@@ -4,8 +4,8 @@ use mathlib.Core.Bool.{not}
 use borrow.Author.Tests.{not-true}
 use borrow.Author.Needs.{needs}
 use Rattle.flag.proofs.Laws.{and-left, and-right}
-use Rattle.registers.proofs.pins.sout.Statement.{statement}
-use Rattle.registers.proofs.pins.sout.Tie as tie
+use Rattle.interrupts.proofs.pins.sout.Statement.{statement}
+use Rattle.interrupts.proofs.pins.sout.Tie as tie
 
 returns : tie.Need-returns
 returns c =

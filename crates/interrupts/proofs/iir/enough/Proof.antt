@@ -1,8 +1,8 @@
 -- The two ways of the definition, by the FIFO.
 use borrow.Author.Tests.{eq-eqb, ne-eqb}
 use borrow.Author.Needs.{needs}
-use Rattle.registers.proofs.iir.enough.Statement.{statement}
-use Rattle.registers.proofs.iir.enough.Tie as tie
+use Rattle.interrupts.proofs.iir.enough.Statement.{statement}
+use Rattle.interrupts.proofs.iir.enough.Tie as tie
 
 returns : tie.Need-returns
 returns c = simp (ne-eqb _ _ (c .if1 .taken))

@@ -1,8 +1,8 @@
 -- The five tests are the definition's, in its order.
 use Rattle.device.specs.Iir.{lineStatus, dataAvailable, timeOut, transmitEmpty, modemStatus, interruptCode}
 use borrow.Author.Needs.{needs}
-use Rattle.registers.proofs.iir.interrupt_code.Statement.{statement}
-use Rattle.registers.proofs.iir.interrupt_code.Tie as tie
+use Rattle.interrupts.proofs.iir.interrupt_code.Statement.{statement}
+use Rattle.interrupts.proofs.iir.interrupt_code.Tie as tie
 
 returns : tie.Need-returns
 unfolding lineStatus dataAvailable timeOut transmitEmpty modemStatus interruptCode

@@ -3,8 +3,8 @@ use Rattle.device.specs.Iir.{fifoCode}
 use native.Mathlib.Omega.{arith}
 use borrow.Author.Needs.{needs}
 use borrow.Author.Tests.{eq-eqb, ne-eqb}
-use Rattle.registers.proofs.iir.fifo_code.Statement.{statement}
-use Rattle.registers.proofs.iir.fifo_code.Tie as tie
+use Rattle.interrupts.proofs.iir.fifo_code.Statement.{statement}
+use Rattle.interrupts.proofs.iir.fifo_code.Tie as tie
 
 returns : tie.Need-returns
 unfolding fifoCode

@@ -1,8 +1,8 @@
 -- The byte is the definition's sum.
 use Rattle.device.specs.Iir.{iirRead}
 use borrow.Author.Needs.{needs}
-use Rattle.registers.proofs.iir.value.Statement.{statement}
-use Rattle.registers.proofs.iir.value.Tie as tie
+use Rattle.interrupts.proofs.iir.value.Statement.{statement}
+use Rattle.interrupts.proofs.iir.value.Tie as tie
 
 add-result : tie.Need-add-result
 add-result c = search needs

@@ -1,7 +1,7 @@
 -- Each pin is its bit.
 use borrow.Author.Needs.{needs}
-use Rattle.registers.proofs.pins.outside.Statement.{statement}
-use Rattle.registers.proofs.pins.outside.Tie as tie
+use Rattle.interrupts.proofs.pins.outside.Statement.{statement}
+use Rattle.interrupts.proofs.pins.outside.Tie as tie
 
 returns : tie.Need-returns
 returns c =

@@ -2,8 +2,8 @@
 use Rattle.device.specs.Iir.{iirRead}
 use borrow.Author.Tests.{eq-eqb, ne-eqb}
 use borrow.Author.Needs.{needs}
-use Rattle.registers.proofs.iir.after_read.Statement.{statement}
-use Rattle.registers.proofs.iir.after_read.Tie as tie
+use Rattle.interrupts.proofs.iir.after_read.Statement.{statement}
+use Rattle.interrupts.proofs.iir.after_read.Tie as tie
 
 returns : tie.Need-returns
 unfolding iirRead
