@@ -156,12 +156,9 @@ fn replay_records(s: State, records: &[u32]) -> Replayed
                 t.tx = tx;
                 t.latches = latches;
             }
-            recorded::READ => {
-                t = recorded::after_read(t, w);
-            }
-            _ => {
-                t = recorded::after(t, w);
-            }
+            recorded::READ => t = recorded::after_read(t, w),
+            recorded::TICKS => t = recorded::ticks(t, w),
+            _ => t = recorded::other(t, w),
         }
         i += 1;
     };

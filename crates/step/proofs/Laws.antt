@@ -120,38 +120,36 @@ module _ (s : State) (w : ℕ) (f : wellFormed s ≡ true) where
       P : Stepped → Type 0
       P r = r .shown ≡ record { byte = 0 }
 
-  -- The ways.
+-- The ways of a record.
 
-  pub nothing-way : isRead w ≡ true → readRegister s (address w) .state ≡ s → Way s w 0
-  nothing-way e same =
-      record {
-        nothing = λ _. read-step (eqb-true (kind w) 1 e) ∙ read-stays s (address w) f same;
-        numbers = λ h. absurd (omega arith);
-        transmit = λ h. absurd (omega arith);
-        read = λ h. absurd (omega arith);
-      }
+module _ (s : State) (w : ℕ) where
+  pub nothing-way : stepOf s w .state ≡ s → Way s w 0
+  nothing-way e =
+      record { most = omega arith; nothing = λ _. e; numbers = λ z. absurd (omega arith); transmit = λ z. absurd (omega arith); read = λ z. absurd (omega arith); ticks = λ z. absurd (omega arith); other = λ z. absurd (omega arith) }
 
-pub transmit-way : (s : State) (w : ℕ) → kind w ≡ 2 → (address w ≡ 2 → ⊥) → reachesQueue s (address w) ≡ true → Way s w 2
-transmit-way s w k n h =
-    record {
-      nothing = λ z. absurd (omega arith);
-      numbers = λ z. absurd (omega arith);
-      transmit = λ _. let x = go (eqb (address w) 0) refl in (k, x .0, x .1);
-      read = λ z. absurd (omega arith);
-    }
-  where
-    go : (z : Bool) → eqb (address w) 0 ≡ z → (address w ≡ 0) × (divisorAccess (s .registers) ≡ false)
-    go true e = (eqb-true (address w) 0 e, not-true (divisorAccess (s .registers)) (simp e at h))
-    go false e = absurd (n (eqb-true (address w) 2 (simp e at h)))
+  pub numbers-way : kind w ≡ 2 → reachesQueue s (address w) ≡ false → Way s w 1
+  numbers-way k h =
+      record { most = omega arith; nothing = λ z. absurd (omega arith); numbers = λ _. (k, h); transmit = λ z. absurd (omega arith); read = λ z. absurd (omega arith); ticks = λ z. absurd (omega arith); other = λ z. absurd (omega arith) }
 
-pub numbers-way : (s : State) (w : ℕ) → kind w ≡ 2 → reachesQueue s (address w) ≡ false → Way s w 1
-numbers-way s w k h =
-    record {
-      nothing = λ z. absurd (omega arith);
-      numbers = λ _. (k, h);
-      transmit = λ z. absurd (omega arith);
-      read = λ z. absurd (omega arith);
-    }
+  pub transmit-way : kind w ≡ 2 → (address w ≡ 2 → ⊥) → reachesQueue s (address w) ≡ true → Way s w 2
+  transmit-way k n h =
+      record { most = omega arith; nothing = λ z. absurd (omega arith); numbers = λ z. absurd (omega arith); transmit = λ _. let x = go (eqb (address w) 0) refl in (k, x .0, x .1); read = λ z. absurd (omega arith); ticks = λ z. absurd (omega arith); other = λ z. absurd (omega arith) }
+    where
+      go : (z : Bool) → eqb (address w) 0 ≡ z → (address w ≡ 0) × (divisorAccess (s .registers) ≡ false)
+      go true e = (eqb-true (address w) 0 e, not-true (divisorAccess (s .registers)) (simp e at h))
+      go false e = absurd (n (eqb-true (address w) 2 (simp e at h)))
+
+  pub read-way : isRead w ≡ true → Way s w 3
+  read-way e =
+      record { most = omega arith; nothing = λ z. absurd (omega arith); numbers = λ z. absurd (omega arith); transmit = λ z. absurd (omega arith); read = λ _. e; ticks = λ z. absurd (omega arith); other = λ z. absurd (omega arith) }
+
+  pub ticks-way : kind w ≡ 0 → Way s w 4
+  ticks-way k =
+      record { most = omega arith; nothing = λ z. absurd (omega arith); numbers = λ z. absurd (omega arith); transmit = λ z. absurd (omega arith); read = λ z. absurd (omega arith); ticks = λ _. k; other = λ z. absurd (omega arith) }
+
+  pub other-way : (kind w ≡ 0 → ⊥) → (kind w ≡ 1 → ⊥) → Way s w 5
+  other-way n0 n1 =
+      record { most = omega arith; nothing = λ z. absurd (omega arith); numbers = λ z. absurd (omega arith); transmit = λ z. absurd (omega arith); read = λ z. absurd (omega arith); ticks = λ z. absurd (omega arith); other = λ _. (n0, n1) }
 
 -- a write to THR sets the transmit queue and the latches
 pub thr-step : (s : State) (w : ℕ) → wellFormed s ≡ true → (kind w ≡ 2) × (address w ≡ 0) × (divisorAccess (s .registers) ≡ false) → stepOf s w .state ≡ thrWrite s (byte w)

@@ -1,5 +1,5 @@
-// A record's step: what it shows, and the state after it. A replay leaves in place what a record does
-// not touch, so the ways in which records touch the state stand apart, and `after` has them all.
+// A record's step: what it shows, and the state after it, by the ways in which records touch the
+// state. A replay leaves in place what a record does not touch.
 use crate::Shown;
 use device::Latches;
 use device::Numbers;
@@ -16,7 +16,7 @@ ghost use Rattle.invariant.specs.Touch.{reachesQueue, numbersOf};
 ghost use Rattle.step.specs.Record.{stepOf, Way};
 
 // The ways of a record: it changes nothing, is a write that reaches no queue, a write to THR, a read
-// that may change the state, or any other record.
+// that may change the state, ticks, or any other record.
 pub const NOTHING: u8 = 0;
 
 pub const NUMBERS: u8 = 1;
@@ -25,7 +25,9 @@ pub const TRANSMIT: u8 = 2;
 
 pub const READ: u8 = 3;
 
-pub const OTHER: u8 = 4;
+pub const TICKS: u8 = 4;
+
+pub const OTHER: u8 = 5;
 
 // What a write to THR sets: the transmit queue and the latches.
 pub struct Queued {
@@ -85,6 +87,9 @@ pub fn way(s: State, w: u32) -> u8
     if kind == record::WRITE {
         return way_of_write(s, w);
     }
+    if kind == record::TICKS {
+        return TICKS;
+    }
     OTHER
 }
 
@@ -118,14 +123,22 @@ pub fn after_read(s: State, w: u32) -> State
     crate::after_read(s, record::address(w))
 }
 
-// The state after any record.
-pub fn after(s: State, w: u32) -> State
+// The state after ticks.
+pub fn ticks(s: State, w: u32) -> State
     requires { ⌜ wellFormed s ≡ true ⌝ }
+    requires { ⌜ «kind-of» w ≡ 0 ⌝ }
+    ensures { λ r. ⌜ r ≡ stepOf s w .state ⌝ }
+{
+    crate::ticks(s, record::count(w))
+}
+
+// The state after any other record.
+pub fn other(s: State, w: u32) -> State
+    requires { ⌜ wellFormed s ≡ true ⌝ }
+    requires { ⌜ («kind-of» w ≡ 0 → ⊥) × («kind-of» w ≡ 1 → ⊥) ⌝ }
     ensures { λ r. ⌜ r ≡ stepOf s w .state ⌝ }
 {
     match record::kind(w) {
-        record::TICKS => crate::ticks(s, record::count(w)),
-        record::READ => crate::after_read(s, record::address(w)),
         record::WRITE => crate::write(s, record::address(w), record::byte(w)),
         record::SIN => crate::set_sin(s, record::sin(w)),
         record::MODEM => crate::set_modem(s, record::modem(w)),

@@ -23,7 +23,8 @@ use Rattle.capture.proofs.replay_records.Tie as tie
 use Rattle.capture.proofs.differs.Reads as differs-reads
 use Rattle.capture.proofs.good_at.Reads as good-at-reads
 use Rattle.capture.proofs.stopped.Reads as stopped-reads
-use Rattle.step.proofs.recorded.after.Reads as after-reads
+use Rattle.step.proofs.recorded.ticks.Reads as ticks-reads
+use Rattle.step.proofs.recorded.other.Reads as other-reads
 use Rattle.step.proofs.recorded.after_read.Reads as after-read-reads
 use Rattle.step.proofs.recorded.numbers.Reads as numbers-reads
 use Rattle.step.proofs.recorded.shown.Reads as shown-reads
@@ -66,8 +67,15 @@ transmit-requires c κs = (c .before .before .before .before .before .before .be
 after-read-requires : tie.Need-after-read-requires Inv-loop μ-loop
 after-read-requires c κs = (c .before .before .before .before .before .before .before .before .loop .inv .kept .well, c .before .way .ensures .read (c .match .keys4))
 
-after-requires : tie.Need-after-requires Inv-loop μ-loop
-after-requires c κs = c .before .before .before .before .before .before .before .before .loop .inv .kept .well
+ticks-requires : tie.Need-ticks-requires Inv-loop μ-loop
+ticks-requires c κs = (c .before .before .before .before .before .before .before .before .loop .inv .kept .well, c .before .way .ensures .ticks (c .match .keys5))
+
+other-requires : tie.Need-other-requires Inv-loop μ-loop
+other-requires c κs =
+    let way = c .before .way .ensures in
+    let r = c .match .rest in
+    let five : c .before .way .result ≡ 5 = omega (arith, way .most, r .1, r .0 .1, r .0 .0 .1, r .0 .0 .0 .1, r .0 .0 .0 .0 .1) in
+    (c .before .before .before .before .before .before .before .before .loop .inv .kept .well, way .other five)
 
 -- A good record stands at the place.
 found : (c : tie.At-match-came Inv-loop μ-loop) → goodAt (c .before .before .before .before .before .before .before .before .before .before .args .records .now) (c .before .before .before .before .before .before .before .before .loop .i) ≡ true
@@ -98,7 +106,7 @@ loop-again c =
     (λ x. x .5 ∙ ap (λ (n : Numbers). withLatches (withBaud (withRegisters t (n .registers)) (n .baud)) (n .latches)) (x .1 .ensures) ∙ sym (numbers-step t w well (way .numbers (x .0 .keys2))))
     (⊎-elim
     (λ x. x .4 ∙ ap (λ (n : Queued). withLatches (withTx t (n .tx)) (n .latches)) (x .1 .ensures) ∙ sym (transmit-step t w well (way .transmit (x .0 .keys3))))
-    (⊎-elim (λ x. x .2 ∙ x .1 .ensures) (λ x. x .2 ∙ x .1 .ensures))))
+    (⊎-elim (λ x. x .2 ∙ x .1 .ensures) (⊎-elim (λ x. x .2 ∙ x .1 .ensures) (λ x. x .2 ∙ x .1 .ensures)))))
     (c .match .came) in
     subst (λ (u : State). Replaying s records u (i + 1)) (sym next) (replay-turns (c .before .before .before .before .before .before .before .before .loop .inv) (inside c) (good-there records i (found c)) same)
 
@@ -136,7 +144,8 @@ replay-records-spec =
     numbers-requires
     transmit-requires
     after-read-requires
-    after-requires
+    ticks-requires
+    other-requires
     add-i
     loop-less
     loop-again

@@ -1,7 +1,7 @@
 -- By the kind.
+use Rattle.step.proofs.Laws.{ticks-way, other-way}
 use mathlib.Core.Path.{sym, _∙_}
 use Prim.Native.Nat.{_-_}
-use native.Mathlib.Omega.{arith}
 use borrow.Author.Tests.{eq-eqb}
 use borrow.Author.Needs.{needs}
 use Rattle.step.proofs.recorded.way.Statement.{statement}
@@ -26,9 +26,14 @@ returns-2 : tie.Need-returns-2
 returns-2 c = search needs
 
 returns-3 : tie.Need-returns-3
-returns-3 c = record { nothing = λ h. absurd (omega arith); numbers = λ h. absurd (omega arith); transmit = λ h. absurd (omega arith); read = λ h. absurd (omega arith) }
+returns-3 c = ticks-way _ _ (sym (c .before .before .before .kind .ensures) ∙ c .if3 .taken)
+
+returns-4 : tie.Need-returns-4
+returns-4 c =
+    let k = c .before .before .before .kind .ensures in
+    other-way _ _ (λ e. c .if3 .left (k ∙ e)) (λ e. c .before .before .if1 .left (k ∙ e))
 
 pub way-spec : {M : Type 1} → statement M
 way-spec =
     tie.close
-    (tie.spec kind-requires way-of-read-requires returns way-of-write-requires returns-2 returns-3)
+    (tie.spec kind-requires way-of-read-requires returns way-of-write-requires returns-2 returns-3 returns-4)

@@ -1,7 +1,10 @@
 -- A read whose registers' state stays changes nothing.
-use Rattle.step.proofs.Laws.{nothing-way}
+use Rattle.step.proofs.Laws.{read-step, read-stays, read-way, nothing-way}
+use Rattle.recorder.specs.Record.{address}
+use Rattle.device.specs.Calls.{readRegister}
+use mathlib.Core.Path.{_≡_, _∙_}
+use borrow.Author.Tests.{eqb-true}
 use Prim.Native.Nat.{_-_}
-use native.Mathlib.Omega.{arith}
 use borrow.Author.Needs.{needs}
 use Rattle.step.proofs.recorded.way_of_read.Statement.{statement}
 use Rattle.step.proofs.recorded.way_of_read.Tie as tie
@@ -15,10 +18,14 @@ read-changes-requires : tie.Need-read-changes-requires
 read-changes-requires c κs = search needs
 
 returns : tie.Need-returns
-returns c = record { nothing = λ h. absurd (omega arith); numbers = λ h. absurd (omega arith); transmit = λ h. absurd (omega arith); read = λ _. c .before .before .before .pre .1 }
+returns c = read-way _ _ (c .before .before .before .pre .1)
 
 returns-2 : tie.Need-returns-2
-returns-2 c = nothing-way _ _ (c .before .before .before .pre .0) (c .before .before .before .pre .1) (rw (← c .before .before .address .ensures) (c .before .read-changes .ensures (c .if1 .left)))
+returns-2 c =
+    let a = c .before .before .before in
+    let s = a .args .s in
+    let same : readRegister s (address (a .args .w)) .state ≡ s = rw (← c .before .before .address .ensures) (c .before .read-changes .ensures (c .if1 .left)) in
+    nothing-way _ _ (read-step _ _ (a .pre .0) (eqb-true _ _ (a .pre .1)) ∙ read-stays _ _ (a .pre .0) same)
 
 pub way-of-read-spec : {M : Type 1} → statement M
 way-of-read-spec = tie.close (tie.spec address-requires read-changes-requires returns returns-2)

@@ -1,5 +1,5 @@
 -- By the address: FCR, THR, or another.
-use Rattle.step.proofs.Laws.{transmit-way, numbers-way}
+use Rattle.step.proofs.Laws.{transmit-way, numbers-way, other-way}
 use mathlib.Core.Path.{sym, _∙_}
 use Prim.Native.Nat.{_-_}
 use native.Mathlib.Omega.{arith}
@@ -13,7 +13,7 @@ address-requires : tie.Need-address-requires
 address-requires c κs = search needs
 
 returns : tie.Need-returns
-returns c = record { nothing = λ h. absurd (omega arith); numbers = λ h. absurd (omega arith); transmit = λ h. absurd (omega arith); read = λ h. absurd (omega arith) }
+returns c = let k = c .before .before .pre in other-way _ _ (λ e. absurd (omega (arith, k, e))) (λ e. absurd (omega (arith, k, e)))
 
 reaches-queue-requires : tie.Need-reaches-queue-requires
 reaches-queue-requires c κs = search needs
