@@ -234,9 +234,10 @@ struct uart_replay uart_replay(struct uart_state s, uint32_t version, const uint
 
 /*
  * The library's own layout: the size of each struct, and a specimen of each in which every byte of
- * a field is the field's number. The state has fields 1..33 in the order above (an entry's are
- * 18..21). The answers' own fields are numbered from 100: the number answered is 100, the field after
- * it 101, the output pins 102..107, the model's byte and the place of a replay 108 and 109.
+ * a field is the field's number. The state's fields are numbered from 1 in the order above
+ * (UART_STATE_FIELDS; an entry's are 18..21). The answers' own fields are numbered from 100: the
+ * number answered is 100, the field after it 101, the output pins 102..107, the model's byte and the
+ * place of a replay 108 and 109.
  */
 uint32_t uart_size_of_state(void);
 uint32_t uart_size_of_answer(void);
@@ -256,37 +257,43 @@ struct uart_replay uart_specimen_replay(void);
 #define UART_AT(type, field, place) \
     UART_STATIC_ASSERT(offsetof(struct type, field) == (place), #type "." #field)
 
+/* The state's fields but for its entries: the place in the struct, the number in the specimen. */
+#define UART_STATE_FIELDS(F) \
+    F(registers.ier, 0, 1)        \
+    F(registers.mcr, 1, 2)        \
+    F(registers.lcr, 2, 3)        \
+    F(registers.scr, 3, 4)        \
+    F(baud.divisor, 4, 5)         \
+    F(baud.k, 8, 6)               \
+    F(fifo.enabled, 12, 7)        \
+    F(fifo.size, 13, 8)           \
+    F(fifo.dma, 14, 9)            \
+    F(fifo.trigger, 15, 10)       \
+    F(inputs.modem, 16, 11)       \
+    F(inputs.sin, 17, 12)         \
+    F(tx.bytes, 20, 13)           \
+    F(tx.count, 84, 14)           \
+    F(frame.left, 88, 15)         \
+    F(frame.byte, 92, 16)         \
+    F(frame.format, 93, 17)       \
+    F(rx.count, 352, 22)          \
+    F(receiver.phase, 356, 23)    \
+    F(receiver.format, 357, 24)   \
+    F(receiver.samples, 358, 25)  \
+    F(receiver.parity, 359, 26)   \
+    F(receiver.position, 360, 27) \
+    F(latches.empty, 364, 28)     \
+    F(latches.overrun, 365, 29)   \
+    F(latches.timeout, 366, 30)   \
+    F(latches.changes, 367, 31)   \
+    F(latches.hold, 368, 32)      \
+    F(latches.idle, 372, 33)
+
+#define UART_STATE_AT(field, place, number) UART_AT(uart_state, field, place);
+
 UART_STATIC_ASSERT(sizeof(struct uart_state) == 376, "uart_state");
-UART_AT(uart_state, registers.ier, 0);
-UART_AT(uart_state, registers.mcr, 1);
-UART_AT(uart_state, registers.lcr, 2);
-UART_AT(uart_state, registers.scr, 3);
-UART_AT(uart_state, baud.divisor, 4);
-UART_AT(uart_state, baud.k, 8);
-UART_AT(uart_state, fifo.enabled, 12);
-UART_AT(uart_state, fifo.size, 13);
-UART_AT(uart_state, fifo.dma, 14);
-UART_AT(uart_state, fifo.trigger, 15);
-UART_AT(uart_state, inputs.modem, 16);
-UART_AT(uart_state, inputs.sin, 17);
-UART_AT(uart_state, tx.bytes, 20);
-UART_AT(uart_state, tx.count, 84);
-UART_AT(uart_state, frame.left, 88);
-UART_AT(uart_state, frame.byte, 92);
-UART_AT(uart_state, frame.format, 93);
+UART_STATE_FIELDS(UART_STATE_AT)
 UART_AT(uart_state, rx.entries, 96);
-UART_AT(uart_state, rx.count, 352);
-UART_AT(uart_state, receiver.phase, 356);
-UART_AT(uart_state, receiver.format, 357);
-UART_AT(uart_state, receiver.samples, 358);
-UART_AT(uart_state, receiver.parity, 359);
-UART_AT(uart_state, receiver.position, 360);
-UART_AT(uart_state, latches.empty, 364);
-UART_AT(uart_state, latches.overrun, 365);
-UART_AT(uart_state, latches.timeout, 366);
-UART_AT(uart_state, latches.changes, 367);
-UART_AT(uart_state, latches.hold, 368);
-UART_AT(uart_state, latches.idle, 372);
 
 UART_STATIC_ASSERT(sizeof(struct uart_entry) == 4, "uart_entry");
 UART_AT(uart_entry, byte, 0);

@@ -23,43 +23,17 @@ static void expect(int holds, const char *what)
         expect(memcmp(&(object).field, all, sizeof all) == 0, #object "." #field); \
     } while (0)
 
+#define STATE_HAS(field, place, number) HAS(s, field, number);
+
 static void check_state(struct uart_state s)
 {
-    HAS(s, registers.ier, 1);
-    HAS(s, registers.mcr, 2);
-    HAS(s, registers.lcr, 3);
-    HAS(s, registers.scr, 4);
-    HAS(s, baud.divisor, 5);
-    HAS(s, baud.k, 6);
-    HAS(s, fifo.enabled, 7);
-    HAS(s, fifo.size, 8);
-    HAS(s, fifo.dma, 9);
-    HAS(s, fifo.trigger, 10);
-    HAS(s, inputs.modem, 11);
-    HAS(s, inputs.sin, 12);
-    HAS(s, tx.bytes, 13);
-    HAS(s, tx.count, 14);
-    HAS(s, frame.left, 15);
-    HAS(s, frame.byte, 16);
-    HAS(s, frame.format, 17);
+    UART_STATE_FIELDS(STATE_HAS)
     for (int i = 0; i < UART_PLACES; i++) {
         HAS(s, rx.entries[i].byte, 18);
         HAS(s, rx.entries[i].pe, 19);
         HAS(s, rx.entries[i].fe, 20);
         HAS(s, rx.entries[i].bi, 21);
     }
-    HAS(s, rx.count, 22);
-    HAS(s, receiver.phase, 23);
-    HAS(s, receiver.format, 24);
-    HAS(s, receiver.samples, 25);
-    HAS(s, receiver.parity, 26);
-    HAS(s, receiver.position, 27);
-    HAS(s, latches.empty, 28);
-    HAS(s, latches.overrun, 29);
-    HAS(s, latches.timeout, 30);
-    HAS(s, latches.changes, 31);
-    HAS(s, latches.hold, 32);
-    HAS(s, latches.idle, 33);
 }
 
 static void check_outputs(struct uart_outputs o)
