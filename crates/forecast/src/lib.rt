@@ -5,6 +5,7 @@ pub mod formula;
 use device::State;
 use device::autoflow;
 use sheet::answer;
+use sheet::limits;
 ghost use mathlib.Core.Path.{_≡_};
 ghost use mathlib.Core.Bool.{true};
 ghost use Rattle.device.specs.Ranges.{wellFormed};
@@ -37,7 +38,7 @@ pub fn pulses_to_come(s: State) -> u32
     requires { ⌜ forecastNumber s ≡ 0 ⌝ }
     ensures { λ r. ⌜ r ≡ pulsesToCome s ⌝ }
 {
-    let length = frame::frame_length(s.registers.lcr % 64);
+    let length = frame::frame_length(s.registers.lcr % limits::SIX_BITS);
     formula::pulses_left(s.frame.left, s.tx.count, length)
 }
 
@@ -59,7 +60,7 @@ pub fn level_after(s: State, t: u32) -> u8
     let tx = s.tx;
     let p = pulses_to_come(s);
     let q = formula::place_after(s.baud.k, s.baud.divisor, p, t);
-    formula::level_at(x, tx, s.registers.lcr % 64, p, q)
+    formula::level_at(x, tx, s.registers.lcr % limits::SIX_BITS, p, q)
 }
 
 // The ticks that run uses of at most n.

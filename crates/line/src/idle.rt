@@ -13,7 +13,7 @@ ghost use Rattle.device.specs.Idle.{counts as «counts-of», timeOutAt, counted
 pub fn limit(lcr: u8) -> u32
     ensures { λ r. ⌜ r ≡ timeOutAt lcr ⌝ }
 {
-    4 * frame::frame_length(lcr % 64)
+    4 * frame::frame_length(lcr % limits::SIX_BITS)
 }
 
 // The idle count one pulse later.

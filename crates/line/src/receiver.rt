@@ -11,6 +11,7 @@ use device::fifo;
 use device::modem;
 use device::sampling;
 use queue::Entry;
+use sheet::limits;
 ghost use mathlib.Core.Path.{_≡_};
 ghost use mathlib.Core.Bool.{cond, not, _&&_};
 ghost use Prim.Native.Nat.{_≤_};
@@ -39,7 +40,7 @@ fn start_at(position: u32, lcr: u8) -> Receiver
 {
     Receiver {
         phase: CHARACTER,
-        format: lcr % 64,
+        format: lcr % limits::SIX_BITS,
         samples: 0,
         parity: 0,
         position,

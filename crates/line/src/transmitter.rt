@@ -5,6 +5,7 @@ use device::Inputs;
 use device::Registers;
 use device::State;
 use device::autoflow;
+use sheet::limits;
 ghost use mathlib.Core.Path.{_≡_};
 ghost use mathlib.Core.Bool.{not, _&&_};
 ghost use Prim.Native.Nat.{_<_};
@@ -52,7 +53,7 @@ fn load(s: State) -> State
     ensures { λ r. ⌜ r ≡ loaded s ⌝ }
 {
     let q = s.tx;
-    let format = s.registers.lcr % 64;
+    let format = s.registers.lcr % limits::SIX_BITS;
     let byte = q.bytes[0];
     let frame = Frame {
         left: frame::frame_length(format),

@@ -14,6 +14,7 @@ use flag::both;
 use queue::ByteQueue;
 use queue::Entry;
 use queue::EntryQueue;
+use sheet::limits;
 ghost use mathlib.Core.Path.{_≡_};
 ghost use mathlib.Core.List.{map};
 ghost use Prim.Native.Nat.{_+_, _*_, _%_, _≤_};
@@ -26,11 +27,11 @@ ghost use Rattle.numbers.specs.Numbers.{fits as «do-fit», low as «low
 // How many numbers stand before each group that follows the settings.
 const TRANSMIT: usize = 13;
 
-const FRAME: usize = TRANSMIT + 64;
+const FRAME: usize = TRANSMIT + limits::PLACES;
 
 const RECEIVE: usize = FRAME + 4;
 
-const RECEIVER: usize = RECEIVE + 4 * 64;
+const RECEIVER: usize = RECEIVE + 4 * limits::PLACES;
 
 // How many numbers a state has.
 pub const COUNT: usize = RECEIVER + 11;
@@ -107,12 +108,12 @@ fn receiver_numbers(v: Receiver, l: Latches) -> [u32; 11]
 }
 
 // Puts the places of the transmit queue into out from `at` on.
-fn put_bytes(bytes: [u8; 64], out: &mut [u32], at: usize)
+fn put_bytes(bytes: [u8; limits::PLACES], out: &mut [u32], at: usize)
     requires { ⌜ at + 64 ≤ length (now out) ⌝ }
     ensures { λ _. ⌜ Appended (now (out .entry)) at bytes (now (out .exit)) (at + 64) ⌝ }
 {
     let mut i: usize = 0;
-    while i < 64 {
+    while i < limits::PLACES {
         out[at + i] = wide(bytes[i]);
         i += 1;
     }
@@ -126,12 +127,12 @@ fn entry_numbers(e: Entry) -> [u32; 4]
 }
 
 // Puts the places of the receive queue into out from `at` on.
-fn put_entries(entries: [Entry; 64], out: &mut [u32], at: usize)
+fn put_entries(entries: [Entry; limits::PLACES], out: &mut [u32], at: usize)
     requires { ⌜ at + 256 ≤ length (now out) ⌝ }
     ensures { λ _. ⌜ Appended (now (out .entry)) at (entriesNumbers entries) (now (out .exit)) (at + 256) ⌝ }
 {
     let mut i: usize = 0;
-    while i < 64 {
+    while i < limits::PLACES {
         let e = entries[i];
         let four = entry_numbers(e);
         put(&four, out, at + 4 * i);
@@ -223,13 +224,13 @@ fn frame_of(n: &[u32]) -> Frame
 }
 
 // The bytes of the transmit queue's places.
-fn bytes_of(n: &[u32]) -> [u8; 64]
+fn bytes_of(n: &[u32]) -> [u8; limits::PLACES]
     requires { ⌜ length (now n) ≡ 64 ⌝ }
     ensures { λ r. ⌜ r ≡ map «low-of» (now (n .entry)) ⌝ }
 {
-    let mut bytes = [0u8; 64];
+    let mut bytes = [0u8; limits::PLACES];
     let mut i: usize = 0;
-    while i < 64 {
+    while i < limits::PLACES {
         bytes[i] = (n[i] % 256) as u8;
         i += 1;
     }
@@ -290,14 +291,14 @@ fn entry_of(n: &[u32]) -> Entry
 }
 
 // The entries of the receive queue's places.
-fn entries_of(n: &[u32]) -> [Entry; 64]
+fn entries_of(n: &[u32]) -> [Entry; limits::PLACES]
     requires { ⌜ length (now n) ≡ 256 ⌝ }
     ensures { λ r. ⌜ r ≡ entriesOf 64 (now (n .entry)) ⌝ }
 {
     let e = queue::entries::none();
-    let mut entries = [e; 64];
+    let mut entries = [e; limits::PLACES];
     let mut i: usize = 0;
-    while i < 64 {
+    while i < limits::PLACES {
         let at = 4 * i;
         let x = entry_of(&n[at..]);
         entries[i] = x;

@@ -13,7 +13,7 @@ pub fn clear() -> ByteQueue
     ensures { λ r. ⌜ r ≡ noBytes ⌝ }
 {
     ByteQueue {
-        bytes: [0u8; 64],
+        bytes: [0u8; limits::PLACES],
         count: 0,
     }
 }
@@ -37,7 +37,7 @@ pub fn put(q: ByteQueue, capacity: u32, b: u8) -> ByteQueue
 }
 
 // The bytes one place down, the oldest gone and the last place zero.
-fn shift(bytes: [u8; 64]) -> [u8; 64]
+fn shift(bytes: [u8; limits::PLACES]) -> [u8; limits::PLACES]
     ensures { λ r. ⌜ r ≡ shifted 0 bytes ⌝ }
 {
     let mut next = bytes;

@@ -27,7 +27,7 @@ pub fn clear() -> EntryQueue
 {
     let e = none();
     EntryQueue {
-        entries: [e; 64],
+        entries: [e; limits::PLACES],
         count: 0,
     }
 }
@@ -158,7 +158,7 @@ pub fn take(q: EntryQueue) -> EntryQueue
 }
 
 // The entries one place down, the oldest gone and the last place zero.
-fn shift(entries: [Entry; 64]) -> [Entry; 64]
+fn shift(entries: [Entry; limits::PLACES]) -> [Entry; limits::PLACES]
     ensures { λ r. ⌜ r ≡ shifted noEntry entries ⌝ }
 {
     let e = none();

@@ -7,6 +7,7 @@
 pub mod bytes;
 pub mod entries;
 
+use sheet::limits;
 ghost use mathlib.Core.Path.{_≡_};
 ghost use mathlib.Core.Bool.{cond, not, _&&_};
 ghost use Prim.Native.Nat.{_<_, _≤_};
@@ -16,7 +17,7 @@ ghost use Rattle.queue.specs.Queue.{countPut};
 // The transmit queue.
 #[repr(C)]
 pub struct ByteQueue {
-    pub bytes: [u8; 64],
+    pub bytes: [u8; limits::PLACES],
     pub count: u32,
 }
 
@@ -32,7 +33,7 @@ pub struct Entry {
 // The receive queue.
 #[repr(C)]
 pub struct EntryQueue {
-    pub entries: [Entry; 64],
+    pub entries: [Entry; limits::PLACES],
     pub count: u32,
 }
 

@@ -4,6 +4,7 @@ use device::Latches;
 use device::Numbers;
 use device::State;
 use sheet::bits;
+use sheet::limits;
 ghost use mathlib.Core.Path.{_≡_};
 ghost use mathlib.Core.Bool.{cond, not, _&&_};
 ghost use lib.Dec.{eqb};
@@ -31,7 +32,7 @@ fn latches_after(l: Latches, ier: u8, b: u8, count: u32) -> Latches
 pub fn write(s: State, b: u8) -> Numbers
     ensures { λ r. ⌜ r ≡ numbersOf (ierWrite s b) ⌝ }
 {
-    let ier = b % 64;
+    let ier = b % limits::SIX_BITS;
     let latches = latches_after(s.latches, s.registers.ier, b, s.tx.count);
     let mut next = numbers_of(s);
     next.registers.ier = ier;

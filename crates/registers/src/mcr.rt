@@ -4,6 +4,7 @@ use crate::numbers_of;
 use device::Numbers;
 use device::State;
 use device::modem;
+use sheet::limits;
 ghost use mathlib.Core.Path.{_≡_};
 ghost use Rattle.device.specs.Mcr.{mcrWrite};
 ghost use Rattle.invariant.specs.Touch.{numbersOf};
@@ -12,7 +13,7 @@ ghost use Rattle.invariant.specs.Touch.{numbersOf};
 pub fn write(s: State, b: u8) -> Numbers
     ensures { λ r. ⌜ r ≡ numbersOf (mcrWrite s b) ⌝ }
 {
-    let mcr = b % 64;
+    let mcr = b % limits::SIX_BITS;
     let mut next = numbers_of(s);
     next.registers.mcr = mcr;
     let from = modem::effective_levels(s.registers, s.inputs);

@@ -18,6 +18,9 @@ pub const LEFT_MOST: u32 = 192;
 
 pub const FORMAT_MOST: u8 = 63;
 
+// The numbers of six bits: IER and MCR keep the low six of a byte, a format is the low six of LCR.
+pub const SIX_BITS: u8 = 64;
+
 pub const IDLE_MOST: u32 = 769;
 
 pub const CHANGES_MOST: u8 = 15;
