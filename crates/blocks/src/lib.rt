@@ -1,12 +1,12 @@
 // A block of input: its lines answered, and the answers written to standard output.
+use current::Session;
 use libc::STDOUT_FILENO;
-use session::Session;
 ghost use mathlib.Core.Path.{_≡_};
 ghost use Prim.Native.Nat.{_≤_};
 ghost use lib.ListN.{length};
 ghost use Rattle.command.specs.Command.{mostNumbers};
 ghost use Rattle.numbers.specs.Numbers.{stateCount};
-ghost use Rattle.session.specs.Session.{longestAnswer};
+ghost use Rattle.current.specs.Current.{longestAnswer};
 
 // What was answered of a block: the current state, the place after the last line answered, whether
 // there may be more, and whether the answers could be written.

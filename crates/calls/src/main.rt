@@ -3,14 +3,14 @@
 // Input is read in blocks. Every whole line of a block is answered, and the answers are written,
 // before the next read; what is read of a line that has not ended is kept for it. Of a line longer
 // than any valid one no more is kept than shows that.
+use current::Session;
 use libc::STDIN_FILENO;
-use session::Session;
 ghost use mathlib.Core.Path.{_≡_};
 ghost use Prim.Native.Nat.{_≤_, _<_};
 ghost use lib.ListN.{length};
 ghost use Rattle.command.specs.Command.{mostNumbers};
 ghost use Rattle.numbers.specs.Numbers.{stateCount};
-ghost use Rattle.session.specs.Session.{longestAnswer};
+ghost use Rattle.current.specs.Current.{longestAnswer};
 
 // Between two reads: the current state, the bytes kept at the start of the block, and whether to
 // go on.
@@ -60,7 +60,7 @@ fn serve(block: &mut [u8], numbers: &mut [u32], kept: &mut [u32], out: &mut [u8]
     requires { ⌜ longestAnswer ≤ length (now out) ⌝ }
 {
     let mut t = Held {
-        session: session::start(),
+        session: current::start(),
         used: 0,
         more: true,
     };

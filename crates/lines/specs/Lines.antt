@@ -8,7 +8,8 @@ use lib.Dec.{eqb}
 use Rattle.device.specs.State.{freshOf}
 use Rattle.text.specs.Text.{before}
 use Rattle.numbers.specs.Numbers.{stateCount}
-use Rattle.session.specs.Session.{held, Standing, standing, lineSaid, lineNext}
+use Rattle.current.specs.Current.{held}
+use Rattle.session.specs.Session.{Standing, standing, lineSaid, lineNext}
 
 -- what is written for the end of the input: nothing, but that a last line may lack its newline
 abbrev pub lastSaid : Standing → List ℕ → List ℕ

@@ -1,13 +1,14 @@
 // A block of lines answered, and what is kept of a line that has not ended.
-use session::LONGEST_ANSWER;
-use session::Session;
+use current::LONGEST_ANSWER;
+use current::Session;
 use text::words;
 ghost use mathlib.Core.Path.{_≡_};
 ghost use Prim.Native.Nat.{_-_, _≤_, min};
 ghost use lib.ListN.{length, take, drop};
 ghost use Rattle.command.specs.Command.{mostNumbers};
 ghost use Rattle.numbers.specs.Numbers.{stateCount};
-ghost use Rattle.session.specs.Session.{longestAnswer, standing};
+ghost use Rattle.current.specs.Current.{longestAnswer};
+ghost use Rattle.session.specs.Session.{standing};
 ghost use Rattle.lines.specs.Lines.{lastSaid, Answered};
 
 const NEWLINE: u8 = b'\n';

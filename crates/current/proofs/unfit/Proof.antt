@@ -3,8 +3,8 @@ use Rattle.device.specs.declared.State.{State}
 use Rattle.device.specs.State.{withRegisters, withIer}
 use mathlib.Core.Path.{ap}
 use borrow.Author.Needs.{needs}
-use Rattle.session.proofs.unfit.Statement.{statement}
-use Rattle.session.proofs.unfit.Tie as tie
+use Rattle.current.proofs.unfit.Statement.{statement}
+use Rattle.current.proofs.unfit.Tie as tie
 
 fresh-requires : tie.Need-fresh-requires
 fresh-requires c κs = tt

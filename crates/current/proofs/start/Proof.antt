@@ -1,9 +1,9 @@
 -- The fresh state.
-use Rattle.session.specs.Session.{held}
+use Rattle.current.specs.Current.{held}
 use mathlib.Core.Path.{ap}
 use borrow.Author.Needs.{needs}
-use Rattle.session.proofs.start.Statement.{statement}
-use Rattle.session.proofs.start.Tie as tie
+use Rattle.current.proofs.start.Statement.{statement}
+use Rattle.current.proofs.start.Tie as tie
 
 fresh-requires : tie.Need-fresh-requires
 fresh-requires c κs = tt

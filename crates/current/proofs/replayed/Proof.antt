@@ -1,12 +1,12 @@
 -- The state and the outcome of the replay.
 use Rattle.text.proofs.Texts.{appended-as}
 use Rattle.outcome.specs.Outcome.{outcomeLine}
-use Rattle.session.specs.Session.{moved}
+use Rattle.current.specs.Current.{moved}
 use Rattle.capture.specs.declared.Replayed.{Replayed}
 use mathlib.Core.Path.{ap}
 use borrow.Author.Needs.{needs}
-use Rattle.session.proofs.replayed.Statement.{statement}
-use Rattle.session.proofs.replayed.Tie as tie
+use Rattle.current.proofs.replayed.Statement.{statement}
+use Rattle.current.proofs.replayed.Tie as tie
 
 replay-requires : tie.Need-replay-requires
 replay-requires c κs = tt

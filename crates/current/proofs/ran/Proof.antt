@@ -2,12 +2,12 @@
 use Rattle.text.proofs.Texts.{appended-as}
 use Rattle.text.specs.Decimal.{lineOf}
 use Rattle.reply.specs.Reply.{runNumbers}
-use Rattle.session.specs.Session.{moved}
+use Rattle.current.specs.Current.{moved}
 use Rattle.device.specs.declared.Ran.{Ran}
 use mathlib.Core.Path.{ap}
 use borrow.Author.Needs.{needs}
-use Rattle.session.proofs.ran.Statement.{statement}
-use Rattle.session.proofs.ran.Tie as tie
+use Rattle.current.proofs.ran.Statement.{statement}
+use Rattle.current.proofs.ran.Tie as tie
 
 run-requires : tie.Need-run-requires
 run-requires c κs = tt

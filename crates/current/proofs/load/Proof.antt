@@ -3,8 +3,8 @@ use Rattle.text.proofs.Texts.{appended-whole}
 use mathlib.Core.Path.{_≡_, sym, _∙_}
 use lib.ListN.{length}
 use borrow.Author.Needs.{needs}
-use Rattle.session.proofs.load.Statement.{statement}
-use Rattle.session.proofs.load.Tie as tie
+use Rattle.current.proofs.load.Statement.{statement}
+use Rattle.current.proofs.load.Tie as tie
 
 put-requires : tie.Need-put-requires
 put-requires c κs = search needs

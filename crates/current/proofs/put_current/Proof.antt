@@ -1,13 +1,13 @@
 -- The numbers of the state, or those loaded last.
 use Rattle.text.proofs.Decimals.{line-room}
 use Rattle.numbers.specs.Numbers.{stateCount}
-use Rattle.session.specs.Session.{currentNumbers}
+use Rattle.current.specs.Current.{currentNumbers}
 use mathlib.Core.Path.{_≡_}
 use lib.ListN.{length}
 use native.Mathlib.Omega.{arith}
 use borrow.Author.Needs.{needs}
-use Rattle.session.proofs.put_current.Statement.{statement}
-use Rattle.session.proofs.put_current.Tie as tie
+use Rattle.current.proofs.put_current.Statement.{statement}
+use Rattle.current.proofs.put_current.Tie as tie
 
 slice-aggregate-put-state : tie.Need-slice-aggregate-put-state
 slice-aggregate-put-state c = search needs

@@ -1,11 +1,11 @@
 -- The test is that of the definition.
 use Rattle.device.specs.declared.State.{State}
-use Rattle.session.specs.Session.{held, loadedOf}
+use Rattle.current.specs.Current.{held, loadedOf}
 use mathlib.Core.Path.{sym, ap, _∙_}
 use mathlib.Core.Bool.{false}
 use borrow.Author.Needs.{needs}
-use Rattle.session.proofs.loaded.Statement.{statement}
-use Rattle.session.proofs.loaded.Tie as tie
+use Rattle.current.proofs.loaded.Statement.{statement}
+use Rattle.current.proofs.loaded.Tie as tie
 
 fits-requires : tie.Need-fits-requires
 fits-requires c κs = search needs

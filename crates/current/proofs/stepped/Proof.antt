@@ -2,15 +2,15 @@
 use Rattle.text.proofs.Texts.{appended-as}
 use Rattle.text.specs.Decimal.{lineOf}
 use Rattle.reply.specs.Reply.{stepNumbers}
-use Rattle.session.specs.Session.{moved}
+use Rattle.current.specs.Current.{moved}
 use Rattle.device.specs.declared.Answer.{Answer}
 use Rattle.text.proofs.Decimals.{line-room}
 use mathlib.Core.Path.{_≡_, ap, _∙_}
 use lib.ListN.{length}
 use native.Mathlib.Omega.{arith}
 use borrow.Author.Needs.{needs}
-use Rattle.session.proofs.stepped.Statement.{statement}
-use Rattle.session.proofs.stepped.Tie as tie
+use Rattle.current.proofs.stepped.Statement.{statement}
+use Rattle.current.proofs.stepped.Tie as tie
 
 step-requires : tie.Need-step-requires
 step-requires c κs = tt

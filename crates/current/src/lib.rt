@@ -1,0 +1,173 @@
+// The current state, and the commands that change it: each makes the next state, and puts its
+// answer into a lent buffer.
+use command::Call;
+use device::State;
+use text::decimal;
+ghost use mathlib.Core.Path.{_≡_};
+ghost use mathlib.Core.List.{[], _∷_};
+ghost use Prim.Native.Nat.{_+_, _≤_};
+ghost use lib.ListN.{length};
+ghost use Rattle.device.specs.State.{freshOf};
+ghost use Rattle.device.specs.Forecast.{runOf};
+ghost use Rattle.capture.specs.Replay.{replayOf};
+ghost use Rattle.text.specs.Text.{Appended};
+ghost use Rattle.text.specs.Decimal.{lineOf};
+ghost use Rattle.numbers.specs.Numbers.{stateCount};
+ghost use Rattle.outcome.specs.Outcome.{outcomeLine};
+ghost use Rattle.reply.specs.Reply.{stepOf, stepNumbers, runNumbers};
+ghost use Rattle.current.specs.Current.{held, unfitState, loadedOf, currentNumbers, longestAnswer, moved};
+
+// The longest answer: the numbers of a state, each of ten digits with a space or the newline after it.
+pub const LONGEST_ANSWER: usize = 11 * numbers::COUNT;
+
+// The current state. Where loaded numbers do not fit the model's types, it is one that every call
+// refuses, and the numbers are kept apart.
+pub struct Session {
+    pub state: State,
+    pub fits: bool,
+}
+
+// The current state after a command, and the end of its answer in the buffer.
+pub struct Said {
+    pub session: Session,
+    pub end: usize,
+}
+
+// The current state at the start.
+pub fn start() -> Session
+    ensures { λ r. ⌜ r ≡ held freshOf ⌝ }
+{
+    Session {
+        state: uart::fresh(),
+        fits: true,
+    }
+}
+
+// A state that every call refuses.
+fn unfit() -> State
+    ensures { λ r. ⌜ r ≡ unfitState ⌝ }
+{
+    let mut s = uart::fresh();
+    s.registers.ier = 255;
+    s
+}
+
+// The current state after `load` of these numbers.
+fn loaded(n: &[u32]) -> Session
+    requires { ⌜ length (now n) ≡ stateCount ⌝ }
+    ensures { λ r. ⌜ r ≡ loadedOf (now (n .entry)) ⌝ }
+{
+    if numbers::fits(n) {
+        return Session {
+            state: numbers::state_of(n),
+            fits: true,
+        };
+    }
+    Session {
+        state: unfit(),
+        fits: false,
+    }
+}
+
+// Puts the numbers of the current state.
+pub fn put_current(s: Session, kept: &[u32], out: &mut [u8], at: usize) -> usize
+    requires { ⌜ length (now kept) ≡ stateCount ⌝ }
+    requires { ⌜ at + longestAnswer ≤ length (now out) ⌝ }
+    ensures { λ r. ⌜ Appended (now (out .entry)) at (lineOf (currentNumbers s (now (kept .entry)))) (now (out .exit)) r ⌝ }
+{
+    if s.fits {
+        let mut n = [0u32; numbers::COUNT];
+        let t = s.state;
+        numbers::put_state(t, &mut n);
+        return decimal::put_line(&n, out, at);
+    }
+    decimal::put_line(kept, out, at)
+}
+
+// Makes a step, and puts its answer.
+pub fn stepped(s: Session, c: Call, out: &mut [u8], at: usize) -> Said
+    requires { ⌜ at + 88 ≤ length (now out) ⌝ }
+    ensures { λ r. ⌜ r .session ≡ moved s (stepOf (s .state) c .state) ⌝ }
+    ensures { λ r. ⌜ Appended (now (out .entry)) at (lineOf (stepNumbers (stepOf (s .state) c))) (now (out .exit)) (r .end) ⌝ }
+{
+    let t = s.state;
+    let a = reply::step(t, c);
+    let n = reply::step_numbers(a);
+    let end = decimal::put_line(&n, out, at);
+    let state = a.state;
+    Said {
+        session: Session {
+            state,
+            fits: s.fits,
+        },
+        end,
+    }
+}
+
+// Runs, and puts the answer.
+pub fn ran(s: Session, n: u32, out: &mut [u8], at: usize) -> Said
+    requires { ⌜ at + 22 ≤ length (now out) ⌝ }
+    ensures { λ r. ⌜ r .session ≡ moved s (runOf (s .state) n .state) ⌝ }
+    ensures { λ r. ⌜ Appended (now (out .entry)) at (lineOf (runNumbers (runOf (s .state) n))) (now (out .exit)) (r .end) ⌝ }
+{
+    let t = s.state;
+    let a = uart::run(t, n);
+    let end = reply::put_pair(a.number, a.used, out, at);
+    let state = a.state;
+    Said {
+        session: Session {
+            state,
+            fits: s.fits,
+        },
+        end,
+    }
+}
+
+// Replays records of a version, and puts the answer.
+pub fn replayed(s: Session, version: u32, records: &[u32], out: &mut [u8], at: usize) -> Said
+    requires { ⌜ at + 40 ≤ length (now out) ⌝ }
+    ensures { λ r. ⌜ r .session ≡ moved s (replayOf version (s .state) (now (records .entry)) .state) ⌝ }
+    ensures { λ r. ⌜ Appended (now (out .entry)) at (outcomeLine (replayOf version (s .state) (now (records .entry)) .outcome)) (now (out .exit)) (r .end) ⌝ }
+{
+    let t = s.state;
+    let played = capture::replay(t, version, records);
+    let o = played.outcome;
+    let end = outcome::put_outcome(o, out, at);
+    let state = played.state;
+    Said {
+        session: Session {
+            state,
+            fits: s.fits,
+        },
+        end,
+    }
+}
+
+// Starts again, and puts the answer.
+pub fn restart(out: &mut [u8], at: usize) -> Said
+    requires { ⌜ at + 11 ≤ length (now out) ⌝ }
+    ensures { λ r. ⌜ r .session ≡ held freshOf ⌝ }
+    ensures { λ r. ⌜ Appended (now (out .entry)) at (lineOf (0 ∷ [])) (now (out .exit)) (r .end) ⌝ }
+{
+    Said {
+        session: start(),
+        end: reply::put_done(out, at),
+    }
+}
+
+// Loads numbers, and puts the answer.
+pub fn load(numbers: &[u32], kept: &mut [u32], out: &mut [u8], at: usize) -> Said
+    requires { ⌜ length (now numbers) ≡ stateCount ⌝ }
+    requires { ⌜ length (now kept) ≡ stateCount ⌝ }
+    requires { ⌜ at + 11 ≤ length (now out) ⌝ }
+    ensures { λ r. ⌜ r .session ≡ loadedOf (now (numbers .entry)) ⌝ }
+    ensures { λ _. ⌜ now (kept .exit) ≡ now (numbers .entry) ⌝ }
+    ensures { λ r. ⌜ Appended (now (out .entry)) at (lineOf (0 ∷ [])) (now (out .exit)) (r .end) ⌝ }
+{
+    numbers::put(numbers, kept, 0);
+    let end = reply::put_done(out, at);
+    Said {
+        session: loaded(numbers),
+        end,
+    }
+}
