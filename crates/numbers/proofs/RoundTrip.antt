@@ -110,7 +110,7 @@ module _ (ns : List ℕ) (long : length ns ≡ stateCount) (t : fits ns ≡ true
 
   -- The five parts.
 
-  settings-back : settingsNumbers (stateOf ns) ≡ take 13 (drop 0 ns)
+  settings-back : settingsNumbers (stateOf ns .registers) (stateOf ns .baud) (stateOf ns .fifo) (stateOf ns .inputs) (stateOf ns .tx .count) ≡ take 13 (drop 0 ns)
   unfolding stateOf transmitOf
   settings-back =
       rw (b1 1 (omega arith) (omega arith), b1 2 (omega arith) (omega arith), b1 3 (omega arith) (omega arith), b1 4 (omega arith) (omega arith), b7 7 (omega arith) (omega arith), b7 8 (omega arith) (omega arith), b7 9 (omega arith) (omega arith), b7 10 (omega arith) (omega arith), b7 11 (omega arith) (omega arith), b7 12 (omega arith) (omega arith))
@@ -132,7 +132,7 @@ module _ (ns : List ℕ) (long : length ns ≡ stateCount) (t : fits ns ≡ true
       let a : allOf isByte (take 256 (take 257 (drop 81 ns))) ≡ true = all-take 256 (take 257 (drop 81 ns)) (tests .1 .1 .1 .1 .0) in
       entries-back 64 (take 256 (drop 81 ns)) l (rw (take-take 256 257 (drop 81 ns) (omega arith)) at a)
 
-  receiver-back : receiverNumbers (stateOf ns) ≡ drop 337 ns
+  receiver-back : receiverNumbers (stateOf ns .receiver) (stateOf ns .latches) ≡ drop 337 ns
   unfolding stateOf
   receiver-back =
       rw (b82 338 (omega arith) (omega arith), b340 340 (omega arith) (omega arith), b340 341 (omega arith) (omega arith), b340 342 (omega arith) (omega arith), b340 343 (omega arith) (omega arith), b340 344 (omega arith) (omega arith), b340 345 (omega arith) (omega arith), b347 347 (omega arith) (omega arith), b347 348 (omega arith) (omega arith))

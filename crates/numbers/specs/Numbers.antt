@@ -44,11 +44,10 @@ stateCount = settingsCount + transmitCount + frameCount + receiveCount + receive
 
 -- places 1..6, IER, MCR, LCR, SCR, divisor, k; 7..12, FIFO on, size bit, DMA bit, trigger code, modem pins, SIN; 13,
 -- the transmit count
-abbrev pub settingsNumbers : State → List ℕ
-settingsNumbers s =
-    s .registers .ier ∷ s .registers .mcr ∷ s .registers .lcr ∷ s .registers .scr ∷ s .baud .divisor ∷ s .baud .k
-    ∷ s .fifo .enabled ∷ s .fifo .size ∷ s .fifo .dma ∷ s .fifo .trigger ∷ s .inputs .modem ∷ s .inputs .sin
-    ∷ s .tx .count ∷ []
+abbrev pub settingsNumbers : Registers → Baud → FifoControl → Inputs → ℕ → List ℕ
+settingsNumbers r b f i n =
+    r .ier ∷ r .mcr ∷ r .lcr ∷ r .scr ∷ b .divisor ∷ b .k ∷ f .enabled ∷ f .size ∷ f .dma ∷ f .trigger ∷ i .modem ∷ i .sin
+    ∷ n ∷ []
 
 -- places 78..80, L, the byte and the format of the frame now sent; 81, the receive count
 abbrev pub frameNumbers : State → List ℕ
@@ -64,16 +63,17 @@ entriesNumbers (e ∷ es) = entryNumbers e ++ entriesNumbers es
 
 -- places 338..342, the receiver's phase, position, format, data samples and parity sample; 343..348, transmit-empty
 -- latch, OE, time-out latch, idle count, change bits, RTS hold
-abbrev pub receiverNumbers : State → List ℕ
-receiverNumbers s =
-    s .receiver .phase ∷ s .receiver .position ∷ s .receiver .format ∷ s .receiver .samples ∷ s .receiver .parity
-    ∷ s .latches .empty ∷ s .latches .overrun ∷ s .latches .timeout ∷ s .latches .idle ∷ s .latches .changes
-    ∷ s .latches .hold ∷ []
+abbrev pub receiverNumbers : Receiver → Latches → List ℕ
+receiverNumbers v l =
+    v .phase ∷ v .position ∷ v .format ∷ v .samples ∷ v .parity ∷ l .empty ∷ l .overrun ∷ l .timeout ∷ l .idle ∷ l .changes
+    ∷ l .hold ∷ []
 
 -- all of them: with places 14..77, the transmit queue, and 82..337, the receive queue
 unfoldable pub numbersOf : State → List ℕ
 numbersOf s =
-    settingsNumbers s ++ (s .tx .bytes ++ (frameNumbers s ++ (entriesNumbers (s .rx .entries) ++ receiverNumbers s)))
+    settingsNumbers (s .registers) (s .baud) (s .fifo) (s .inputs) (s .tx .count)
+    ++ (s .tx .bytes
+    ++ (frameNumbers s ++ (entriesNumbers (s .rx .entries) ++ receiverNumbers (s .receiver) (s .latches))))
 
 -- Numbers that fit.
 

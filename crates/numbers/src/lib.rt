@@ -56,23 +56,23 @@ pub fn wide(b: u8) -> u32
 }
 
 // Places 1..13: the registers, the FIFO's settings, the pins and the transmit count.
-fn settings_numbers(s: State) -> [u32; 13]
-    ensures { λ r. ⌜ r ≡ settingsNumbers s ⌝ }
+fn settings_numbers(r: Registers, b: Baud, f: FifoControl, i: Inputs, count: u32) -> [u32; 13]
+    ensures { λ n. ⌜ n ≡ settingsNumbers r b f i count ⌝ }
 {
     [
-        wide(s.registers.ier),
-        wide(s.registers.mcr),
-        wide(s.registers.lcr),
-        wide(s.registers.scr),
-        s.baud.divisor,
-        s.baud.k,
-        wide(s.fifo.enabled),
-        wide(s.fifo.size),
-        wide(s.fifo.dma),
-        wide(s.fifo.trigger),
-        wide(s.inputs.modem),
-        wide(s.inputs.sin),
-        s.tx.count,
+        r.ier as u32,
+        r.mcr as u32,
+        r.lcr as u32,
+        r.scr as u32,
+        b.divisor,
+        b.k,
+        f.enabled as u32,
+        f.size as u32,
+        f.dma as u32,
+        f.trigger as u32,
+        i.modem as u32,
+        i.sin as u32,
+        count,
     ]
 }
 
@@ -89,21 +89,21 @@ fn frame_numbers(s: State) -> [u32; 4]
 }
 
 // Places 338..348: the receiver and the latches.
-fn receiver_numbers(s: State) -> [u32; 11]
-    ensures { λ r. ⌜ r ≡ receiverNumbers s ⌝ }
+fn receiver_numbers(v: Receiver, l: Latches) -> [u32; 11]
+    ensures { λ n. ⌜ n ≡ receiverNumbers v l ⌝ }
 {
     [
-        wide(s.receiver.phase),
-        s.receiver.position,
-        wide(s.receiver.format),
-        wide(s.receiver.samples),
-        wide(s.receiver.parity),
-        wide(s.latches.empty),
-        wide(s.latches.overrun),
-        wide(s.latches.timeout),
-        s.latches.idle,
-        wide(s.latches.changes),
-        wide(s.latches.hold),
+        v.phase as u32,
+        v.position,
+        v.format as u32,
+        v.samples as u32,
+        v.parity as u32,
+        l.empty as u32,
+        l.overrun as u32,
+        l.timeout as u32,
+        l.idle,
+        l.changes as u32,
+        l.hold as u32,
     ]
 }
 
@@ -145,7 +145,7 @@ pub fn put_state(s: State, out: &mut [u32])
     requires { ⌜ length (now out) ≡ stateCount ⌝ }
     ensures { λ _. ⌜ now (out .exit) ≡ numbersOf s ⌝ }
 {
-    let settings = settings_numbers(s);
+    let settings = settings_numbers(s.registers, s.baud, s.fifo, s.inputs, s.tx.count);
     put(&settings, out, 0);
     let tx = s.tx;
     let bytes = tx.bytes;
@@ -155,7 +155,7 @@ pub fn put_state(s: State, out: &mut [u32])
     let rx = s.rx;
     let entries = rx.entries;
     put_entries(entries, out, RECEIVE);
-    let receiver = receiver_numbers(s);
+    let receiver = receiver_numbers(s.receiver, s.latches);
     put(&receiver, out, RECEIVER);
 }
 
