@@ -155,7 +155,7 @@ pub fn ticks(s: State, n: u32) -> Answer
     if !well_formed(s) {
         return refused(answer::MALFORMED, s);
     }
-    answered(step::ticks(s, n), 0)
+    answered(clock::advance(s, n), 0)
 }
 
 // The output pins as they are.
@@ -233,6 +233,6 @@ pub fn run(s: State, n: u32) -> Ran
     Ran {
         number: answer::DONE,
         used,
-        state: step::ticks(s, used),
+        state: clock::advance(s, used),
     }
 }

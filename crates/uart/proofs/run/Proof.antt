@@ -25,15 +25,15 @@ returns c = (simp (sym (c .before .well-formed .ensures) ∙ not-true _ (c .if1 
 used-requires : tie.Need-used-requires
 used-requires c κs = sym (c .before .well-formed .ensures) ∙ not-false _ (c .if1 .left)
 
-ticks-requires : tie.Need-ticks-requires
-ticks-requires c κs = sym (c .before .before .well-formed .ensures) ∙ not-false _ (c .before .if1 .left)
+advance-requires : tie.Need-advance-requires
+advance-requires c κs = sym (c .before .before .well-formed .ensures) ∙ not-false _ (c .before .if1 .left)
 
 returns-2 : tie.Need-returns-2
 unfolding runOf
 returns-2 c =
     let w = sym (c .before .before .before .well-formed .ensures) ∙ not-false _ (c .before .before .if1 .left) in
-    (rw (c .ticks .ensures, c .before .used .ensures) (simp w), λ _. rw (c .before .used .ensures) (stops-in-time _ (kept (c .before .before .before .before) w) _))
+    (rw (c .advance .ensures, c .before .used .ensures) (simp w), λ _. rw (c .before .used .ensures) (stops-in-time _ (kept (c .before .before .before .before) w) _))
 
 pub run-spec : {M : Type 1} → statement M
 run-spec =
-    tie.close (tie.spec well-formed-requires returns used-requires ticks-requires returns-2)
+    tie.close (tie.spec well-formed-requires returns used-requires advance-requires returns-2)

@@ -22,18 +22,18 @@ returns : tie.Need-returns
 unfolding ticksAnswer
 returns c = rw (c .refused .ensures) (simp (sym (c .before .before .well-formed .ensures) ∙ not-true _ (c .before .if1 .taken)))
 
-ticks-requires : tie.Need-ticks-requires
-ticks-requires c κs = sym (c .before .well-formed .ensures) ∙ not-false _ (c .if1 .left)
+advance-requires : tie.Need-advance-requires
+advance-requires c κs = sym (c .before .well-formed .ensures) ∙ not-false _ (c .if1 .left)
 
 answered-requires : tie.Need-answered-requires
 answered-requires c κs =
     let a = c .before .before .before in
     let k = ticks-kept (a .args .n) (a .args .s) (record { well = sym (c .before .before .well-formed .ensures) ∙ not-false _ (c .before .if1 .left); places = places a }) in
-    rw (c .ticks .ensures) (good-of _ (k .well) .transmit .frame .left-most)
+    rw (c .advance .ensures) (good-of _ (k .well) .transmit .frame .left-most)
 
 returns-2 : tie.Need-returns-2
 unfolding ticksAnswer
-returns-2 c = rw (c .answered .ensures, c .before .ticks .ensures) (simp (sym (c .before .before .before .well-formed .ensures) ∙ not-false _ (c .before .before .if1 .left)))
+returns-2 c = rw (c .answered .ensures, c .before .advance .ensures) (simp (sym (c .before .before .before .well-formed .ensures) ∙ not-false _ (c .before .before .if1 .left)))
 
 pub ticks-spec : {M : Type 1} → statement M
 ticks-spec =
@@ -42,6 +42,6 @@ ticks-spec =
     well-formed-requires
     refused-requires
     returns
-    ticks-requires
+    advance-requires
     answered-requires
     returns-2)
