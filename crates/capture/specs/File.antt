@@ -55,7 +55,9 @@ onward n r = record { state = r .state; outcome = later n (r .outcome) }
 -- the answer for the file, where these bytes are still to come
 unfoldable pub restOf : Progress → List ℕ → Replayed
 restOf p bytes =
-    cond (agreeing (p .replayed .outcome)) (onward (p .place) (recordsOf (p .version) (p .replayed .state) bytes)) (p .replayed)
+    cond (agreeing (p .replayed .outcome))
+    (onward (p .place) (recordsOf (p .version) (p .replayed .state) bytes))
+    (p .replayed)
 
 -- what the records still to come need: a well-formed state, and a known version
 pub record Ready (p : Progress) : Type 0 where

@@ -13,8 +13,8 @@ use Rattle.device.specs.declared.Receiver.{Receiver}
 use Rattle.device.specs.declared.Received.{Received}
 use Rattle.device.specs.declared.State.{State}
 use Rattle.device.specs.Transmitter.{ready, shiftedOut, loaded, transmitted}
-use Rattle.device.specs.Receiver.{entered, accepted}
-use Rattle.device.specs.Ranges.{samplesTaken}
+use Rattle.device.specs.Receiver.{withEntry, withReceived}
+use Rattle.device.specs.Receiver.{samplesTaken}
 use Rattle.invariant.proofs.Good.{ReceiverFacts, good-of}
 use Rattle.invariant.proofs.Settled.{Kept}
 use Rattle.line.specs.Needs.{Sent, Placed, Hearing}
@@ -80,6 +80,6 @@ unfolding transmitted
 transmitted-idle s =
     cond-same idleCount (eqb (shiftedOut (s .frame) .left) 0 && ready s) _ _ _ (loaded-idle s) refl
 
-pub accepted-idle : (s : State) (r : Received) → accepted s r .latches .idle ≡ s .latches .idle
-unfolding accepted entered
-accepted-idle s r = cond-same idleCount (r .ended) _ _ _ refl refl
+pub received-idle : (s : State) (r : Received) → withReceived s r .latches .idle ≡ s .latches .idle
+unfolding withReceived withEntry
+received-idle s r = cond-same idleCount (r .ended) _ _ _ refl refl

@@ -19,7 +19,7 @@ use Rattle.device.specs.State.{withFrame, withReceiver, withLatches}
 use Rattle.device.specs.Autoflow.{settledLatches, settled}
 use Rattle.device.specs.Transmitter.{line, ready, shiftedOut, transmitted}
 use Rattle.device.specs.Modem.{loopback}
-use Rattle.device.specs.Receiver.{goesOn, inCharacter, reception, heard, receive, enters, accepted, received}
+use Rattle.device.specs.Receiver.{goesOn, inCharacter, receiverPulseOf, heard, receiverPulse, enters, withReceived, received}
 use Rattle.device.specs.Idle.{counts, timeOutAt, counted, idled}
 use Rattle.device.specs.Tick.{pulsed}
 use Rattle.clock.specs.declared.QuietPulse.{QuietPulse}
@@ -32,8 +32,8 @@ line-high true x sin e = simp e
 line-high false x sin e = eqb-true sin 1 e
 
 -- A pulse that only steps on is the receiver's.
-pub steady-receives : (b : Bool) (x : Frame) (sin lcr : ℕ) (v : Receiver) → steady b (x .left) sin v ≡ true → receive (cond b (line x) sin) lcr v ≡ goesOn (stepped v)
-unfolding receive inCharacter steady stepped
+pub steady-receives : (b : Bool) (x : Frame) (sin lcr : ℕ) (v : Receiver) → steady b (x .left) sin v ≡ true → receiverPulse (cond b (line x) sin) lcr v ≡ goesOn (stepped v)
+unfolding receiverPulse inCharacter steady stepped
 steady-receives b x sin lcr v e =
     elim (ℕ-discrete (v .phase) 2) [
       | yes p ↦
@@ -48,7 +48,7 @@ steady-receives b x sin lcr v e =
     h : ℕ
     h = cond b (line x) sin
 
-    idle : eqb (v .phase) 2 ≡ false → cond (eqb (v .phase) 0) (cond b (eqb (x .left) 0) (eqb sin 1)) false ≡ true → receive h lcr v ≡ goesOn (stepped v)
+    idle : eqb (v .phase) 2 ≡ false → cond (eqb (v .phase) 0) (cond b (eqb (x .left) 0) (eqb sin 1)) false ≡ true → receiverPulse h lcr v ≡ goesOn (stepped v)
     idle two f =
         elim (ℕ-discrete (v .phase) 0) [
           | yes p ↦
@@ -66,11 +66,11 @@ unfolding transmitted
 transmitted-quiet s e = simp e
 
 -- no character ends
-received-quiet : (t : State) → reception t .ended ≡ false → received t ≡ withReceiver t (reception t .receiver)
-unfolding received accepted
+received-quiet : (t : State) → receiverPulseOf t .ended ≡ false → received t ≡ withReceiver t (receiverPulseOf t .receiver)
+unfolding received withReceived
 received-quiet t e = simp e
 
-enters-not : (t : State) → reception t .ended ≡ false → enters t ≡ false
+enters-not : (t : State) → receiverPulseOf t .ended ≡ false → enters t ≡ false
 unfolding enters
 enters-not t e = simp e
 
@@ -93,7 +93,7 @@ settled-later r f n limit b l e =
 -- the receiver after the transmitter's part of a quiet pulse
 abbrev heardQuietly : State → Received
 heardQuietly s =
-    receive (cond (loopback (s .registers)) (line (shiftedOut (s .frame))) (s .inputs .sin)) (s .registers .lcr) (s .receiver)
+    receiverPulse (cond (loopback (s .registers)) (line (shiftedOut (s .frame))) (s .inputs .sin)) (s .registers .lcr) (s .receiver)
 
 -- both together, with the idle count and the rules that end a step
 pulsed-quiet : (s : State) → settled s ≡ s

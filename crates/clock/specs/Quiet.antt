@@ -1,5 +1,5 @@
--- The quiet pulse: no byte is loaded and no character ends. It changes numbers alone, so that the loop over ticks leaves
--- the queues where they are. What these definitions say of a pulse is proved against `Tick.antt`.
+-- The quiet pulse: no byte is loaded and no character ends. It changes numbers alone, so that the loop over ticks
+-- leaves the queues where they are. What these definitions say of a pulse is proved against `Tick.antt`.
 use Prim.Native.Nat.{ℕ, _+_, _%_}
 use mathlib.Core.Bool.{Bool, true, false, cond, not, _&&_}
 use lib.Dec.{eqb}
@@ -9,7 +9,7 @@ use Rattle.device.specs.declared.Latches.{Latches}
 use Rattle.device.specs.declared.State.{State}
 use Rattle.device.specs.Modem.{loopback}
 use Rattle.device.specs.Transmitter.{line, ready, shiftedOut}
-use Rattle.device.specs.Receiver.{atPosition, receive}
+use Rattle.device.specs.Receiver.{atPosition, receiverPulse}
 use Rattle.device.specs.Idle.{counts, timeOutAt, counted}
 use Rattle.clock.specs.declared.Setting.{Setting}
 use Rattle.clock.specs.declared.QuietPulse.{QuietPulse}
@@ -42,8 +42,8 @@ assembled s k x v l =
       latches = l;
     }
 
--- a pulse that only steps on, with so many pulses left of the frame: between two samples of a character, or idle on a line
--- that is high because nothing is sent, or because SIN is
+-- a pulse that only steps on, with so many pulses left of the frame: between two samples of a character, or idle on a
+-- line that is high because nothing is sent, or because SIN is
 unfoldable pub steady : Bool → ℕ → ℕ → Receiver → Bool
 steady looped left sin v =
     cond (eqb (v .phase) 2)
@@ -62,7 +62,7 @@ busy x v l = record { quiet = false; frame = x; receiver = v; latches = l }
 unfoldable pub quietOf : Setting → Frame → Receiver → Latches → QuietPulse
 quietOf c x v l =
     let y = shiftedOut x in
-    let r = receive (cond (c .loopback) (line y) (c .sin)) (c .lcr) v in
+    let r = receiverPulse (cond (c .loopback) (line y) (c .sin)) (c .lcr) v in
     cond (eqb (y .left) 0 && c .ready)
     (busy x v l)
     (cond (r .ended)

@@ -1,6 +1,6 @@
--- The calls and the numbers that they answer (document 01, "Numbers answered" and "Registers"): 0 done; 1 state not well
--- formed; 2 register address above 7; 3 SIN above 1 or modem pins above 15. Lowest number first. A refusal hands the
--- state back as it was, every other result 0.
+-- The calls and the numbers that they answer (document 01, "Numbers answered" and "Registers"): 0 done; 1 state not
+-- well formed; 2 register address above 7; 3 SIN above 1 or modem pins above 15. Lowest number first. A refusal hands
+-- the state back as it was, every other result 0.
 use Prim.Native.Nat.{ℕ, zero, suc}
 use mathlib.Core.Bool.{cond}
 use lib.Dec.{leb, eqb}
@@ -32,12 +32,12 @@ byAddress a r0 r1 r2 r3 r4 r5 r6 r7 =
     (cond (eqb a 1) r1
     (cond (eqb a 2) r2 (cond (eqb a 3) r3 (cond (eqb a 4) r4 (cond (eqb a 5) r5 (cond (eqb a 6) r6 r7))))))
 
--- a register read at address 0..7 (004, table 1)
+-- a register read at address 0..7 (SLLS191C, table 1)
 unfoldable pub readRegister : State → ℕ → Reading
 readRegister s a =
     byAddress a
-    (cond (divisorAccess (s .registers)) (seen s (divisorLow s)) (rbrRead s))  -- RBR, or divisor low
-    (seen s (cond (divisorAccess (s .registers)) (divisorHigh s) (s .registers .ier)))  -- IER, or divisor high
+    (cond (divisorAccess (s .registers)) (seen s (divisorLow s)) (rbrRead s))  -- RBR, or DLL with DLAB
+    (seen s (cond (divisorAccess (s .registers)) (divisorHigh s) (s .registers .ier)))  -- IER, or DLM with DLAB
     (iirRead s)  -- IIR
     (seen s (s .registers .lcr))  -- LCR
     (seen s (s .registers .mcr))  -- MCR
@@ -45,12 +45,12 @@ readRegister s a =
     (msrRead s)  -- MSR
     (seen s (s .registers .scr))  -- SCR
 
--- a register write at address 0..7 (004, table 1). Writes to LSR and MSR do nothing (house rule)
+-- a register write at address 0..7 (SLLS191C, table 1). Writes to LSR and MSR do nothing (house rule)
 unfoldable pub writeRegister : State → ℕ → ℕ → State
 writeRegister s a b =
     byAddress a
-    (cond (divisorAccess (s .registers)) (divisorLowWrite s b) (thrWrite s b))  -- THR, or divisor low
-    (cond (divisorAccess (s .registers)) (divisorHighWrite s b) (ierWrite s b))  -- IER, or divisor high
+    (cond (divisorAccess (s .registers)) (divisorLowWrite s b) (thrWrite s b))  -- THR, or DLL with DLAB
+    (cond (divisorAccess (s .registers)) (divisorHighWrite s b) (ierWrite s b))  -- IER, or DLM with DLAB
     (fcrWrite s b)  -- FCR
     (lcrWrite s b)  -- LCR
     (mcrWrite s b)  -- MCR

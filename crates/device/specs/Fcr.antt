@@ -1,4 +1,4 @@
--- FCR, FIFO control register (SLLS191C and 003, "FIFO control register (FCR)"; document 01, "FCR write").
+-- FCR, FIFO control register (SLLS191C and SLLS597D, "FIFO control register (FCR)"; document 01, "FCR write").
 use Prim.Native.Nat.{ℕ, _/_}
 use mathlib.Core.Bool.{Bool, cond, _&&_, _||_}
 use lib.Dec.{eqb}
@@ -10,8 +10,8 @@ use Rattle.device.specs.declared.State.{State}
 use Rattle.device.specs.State.{withFifo, withTx, withRx, withLatches, withEmpty}
 use Rattle.device.specs.Rbr.{restartIdle}
 
--- the settings after a write. Bit 0 clear turns the FIFO off, other bits ignored. Bit 0 set turns it on; bits 7, 6 give
--- the trigger code, bit 3 the DMA bit, bit 5 the size, only when LCR7 = 1 (else it stays)
+-- the settings after a write. Bit 0 clear turns the FIFO off, other bits ignored. Bit 0 set turns it on; bits 7, 6
+-- give the trigger code, bit 3 the DMA bit, bit 5 the size, only when LCR7 (DLAB) = 1 (else it stays)
 unfoldable pub fifoAfter : Registers → FifoControl → ℕ → FifoControl
 fifoAfter r f b =
     cond (bit 0 b)
@@ -27,7 +27,7 @@ fifoAfter r f b =
 unfoldable pub switched : FifoControl → FifoControl → Bool
 switched f g = differ (on (f .enabled)) (on (g .enabled)) || differ (on (f .size)) (on (g .size))
 
--- clearing the receive queue clears time-out latch and idle count, and not OE
+-- clearing the receive queue clears time-out latch and idle count, and not OE; the character being received goes on
 unfoldable pub clearReceive : State → State
 clearReceive s = withLatches (withRx s noEntries) (restartIdle (s .latches))
 

@@ -1,5 +1,5 @@
--- The forecast, the line's level, and run (document 01, "Forecast and run"; numbers 4 and 5 of "Numbers answered"). p, T,
--- q and the string are those of the frame crate's Forecast.antt.
+-- The forecast, the line's level, and run (document 01, "Forecast and run"; numbers 4 and 5 of "Numbers answered"). p,
+-- T, q and the string are those of the frame crate's Forecast.antt.
 use Prim.Native.Nat.{ℕ, _≤_, _<_, min}
 use mathlib.Core.Path.{_≡_}
 use mathlib.Core.Bool.{Bool, true, false, cond, _&&_}
@@ -14,7 +14,7 @@ use Rattle.device.specs.declared.Leveled.{Leveled}
 use Rattle.device.specs.declared.Ran.{Ran}
 use Rattle.device.specs.Autoflow.{held}
 use Rattle.device.specs.Ranges.{wellFormed}
-use Rattle.device.specs.Lsr.{transmitterEmpty}
+use Rattle.device.specs.Lsr.{temt}
 use Rattle.device.specs.Transmitter.{line}
 use Rattle.device.specs.Calls.{tickOf, ticksOf}
 
@@ -73,17 +73,17 @@ runOf s n =
     (record { number = 0; used = usedOf s n; state = ticksOf (usedOf s n) s })
     (record { number = 1; used = 0; state = s })
 
--- Demand 3: what the forecast T of s says of t ticks, each on the state that the last one returned. The next tick isn't
--- refused; queue and shift register are both empty exactly when t is at least T; the transmitter's line has the level at
--- place q of the string of s, high from place p on
+-- Demand 3: what the forecast T of s says of t ticks, each on the state that the last one returned. The next tick
+-- isn't refused; queue and shift register are both empty (TEMT) exactly when t is at least T; the transmitter's line
+-- has the level at place q of the string of s, high from place p on
 pub record Foretold (s : State) (T t : ℕ) : Type 0 where
   pub accepted : tickOf (ticksOf t s) .number ≡ 0
-  pub empties : T ≤ t → transmitterEmpty (ticksOf t s) ≡ true
-  pub not-before : transmitterEmpty (ticksOf t s) ≡ true → T ≤ t
+  pub empties : T ≤ t → temt (ticksOf t s) ≡ true
+  pub not-before : temt (ticksOf t s) ≡ true → T ≤ t
   pub level : line (ticksOf t s .frame) ≡ levelToCome s t
 
--- run stops as soon as LSR6 would be 1, and not before
+-- run stops as soon as LSR6 (TEMT) would be 1, and not before
 pub record StopsInTime (s : State) (n used : ℕ) : Type 0 where
   pub within : used ≤ n
-  pub empty : used < n → transmitterEmpty (ticksOf used s) ≡ true
-  pub not-before : (t : ℕ) → t < used → transmitterEmpty (ticksOf t s) ≡ false
+  pub empty : used < n → temt (ticksOf used s) ≡ true
+  pub not-before : (t : ℕ) → t < used → temt (ticksOf t s) ≡ false

@@ -1,4 +1,5 @@
--- The idle count's part of a pulse (document 01, "A tick", 3).
+-- The idle count's part of a pulse, and the character time-out (SLLS191C, "FIFO interrupt mode operation", time-out;
+-- document 01, "A tick", 3). RCLK, by which the sheet counts character times, is the transmitter's 16x clock here.
 use Prim.Native.Nat.{ℕ, _+_, _*_, min}
 use mathlib.Core.Bool.{Bool, cond, not, _&&_}
 use lib.Dec.{ltb, eqb}

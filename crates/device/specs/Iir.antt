@@ -1,4 +1,5 @@
--- IIR, interrupt identification register (002, table 5; document 01, "Interrupts" and "IIR read").
+-- IIR, interrupt identification register (SLLS191C, "interrupt identification register (IIR)" and table 5; document 01,
+-- "Interrupts" and "IIR read").
 use Prim.Native.Nat.{ℕ, _+_}
 use mathlib.Core.Bool.{Bool, cond, _&&_, _||_}
 use lib.Dec.{leb, ltb, eqb}
@@ -11,25 +12,26 @@ use Rattle.device.specs.State.{withLatches, withEmpty}
 use Rattle.device.specs.Fifo.{triggerLevel}
 use Rattle.device.specs.Rbr.{oldest}
 
--- receiver line status: IER2 and either OE or an error of the oldest entry
+-- receiver line status: IER2 (ELSI) and either OE or an error (PE, FE, BI) of the oldest entry
 unfoldable pub lineStatus : State → Bool
 lineStatus s = bit 2 (s .registers .ier) && (on (s .latches .overrun) || hasError (oldest (s .rx)))
 
--- received data available: IER0 and count at or above the trigger, or in character mode data waiting
+-- received data available: IER0 (ERBI) and count at or above the trigger, or in character mode data waiting
 unfoldable pub dataAvailable : State → Bool
 dataAvailable s =
     bit 0 (s .registers .ier)
     && cond (on (s .fifo .enabled)) (leb (triggerLevel (s .fifo)) (s .rx .count)) (ltb 0 (s .rx .count))
 
--- character time-out: IER0 and the time-out latch
+-- character time-out: IER0 (ERBI) and the time-out latch
 unfoldable pub timeOut : State → Bool
 timeOut s = bit 0 (s .registers .ier) && on (s .latches .timeout)
 
--- transmitter holding register empty: IER1 and the transmit-empty latch
-unfoldable pub transmitEmpty : State → Bool
-transmitEmpty s = bit 1 (s .registers .ier) && on (s .latches .empty)
+-- transmitter holding register empty: IER1 (ETBEI) and the transmit-empty latch. The latch is not LSR5 (THRE), which is
+-- the queue itself
+unfoldable pub thrEmpty : State → Bool
+thrEmpty s = bit 1 (s .registers .ier) && on (s .latches .empty)
 
--- modem status: IER3 and a change bit
+-- modem status: IER3 (EDSSI) and a change bit (DCTS, DDSR, TERI, DDCD)
 unfoldable pub modemStatus : State → Bool
 modemStatus s = bit 3 (s .registers .ier) && ltb 0 (s .latches .changes)
 
@@ -39,7 +41,7 @@ interruptCode s =
     cond (lineStatus s) 0x06
     (cond (dataAvailable s) 0x04
     (cond (timeOut s) 0x0c
-    (cond (transmitEmpty s) 0x02
+    (cond (thrEmpty s) 0x02
     (cond (modemStatus s) 0x00
     0x01))))
 

@@ -1,9 +1,13 @@
--- The manual. The two readers read this folder against the sheet: what the state is, what the settings mean, the
--- registers by address, the line, and the calls.
+-- The manual. The two readers read this folder against the sheet, in this order: what the state is and what the settings
+-- mean, the line, the ranges of the state, the registers, the pins, and the calls. A file uses earlier ones alone.
 pub mod State
 pub mod Fifo
 pub mod Modem
 pub mod Autoflow
+pub mod Transmitter
+pub mod Receiver
+pub mod Idle
+pub mod Tick
 pub mod Ranges
 pub mod Rbr
 pub mod Thr
@@ -11,15 +15,11 @@ pub mod Ier
 pub mod Iir
 pub mod Fcr
 pub mod Lcr
-pub mod Mcr
+pub mod Divisor
 pub mod Lsr
 pub mod Msr
+pub mod Mcr
 pub mod Scr
-pub mod Divisor
-pub mod Transmitter
-pub mod Receiver
-pub mod Idle
-pub mod Tick
 pub mod Pins
 pub mod Calls
 pub mod Forecast

@@ -12,21 +12,21 @@ use Rattle.device.specs.declared.State.{State}
 use Rattle.device.specs.State.{withRx, withLatches, withOverrun}
 use Rattle.device.specs.Rbr.{oldest}
 
--- LSR6: transmit queue and shift register are both empty
-unfoldable pub transmitterEmpty : State → Bool
-transmitterEmpty s = eqb (s .tx .count) 0 && eqb (s .frame .left) 0
+-- LSR6 (TEMT): transmit queue and shift register are both empty
+unfoldable pub temt : State → Bool
+temt s = eqb (s .tx .count) 0 && eqb (s .frame .left) 0
 
 -- the register, bit by bit
 unfoldable pub lsr : State → ℕ
 lsr s =
     byteOf
-    (ltb 0 (s .rx .count)  -- 0 received data waiting
-    ∷ on (s .latches .overrun)  -- 1 OE
+    (ltb 0 (s .rx .count)  -- 0 DR, received data waiting
+    ∷ on (s .latches .overrun)  -- 1 OE, overrun
     ∷ on (oldest (s .rx) .pe)  -- 2 PE of the oldest entry
     ∷ on (oldest (s .rx) .fe)  -- 3 FE of the oldest entry
     ∷ on (oldest (s .rx) .bi)  -- 4 BI of the oldest entry
-    ∷ eqb (s .tx .count) 0  -- 5 transmit queue empty
-    ∷ transmitterEmpty s  -- 6 that and L = 0
+    ∷ eqb (s .tx .count) 0  -- 5 THRE, transmit queue empty
+    ∷ temt s  -- 6 TEMT, that and L = 0
     ∷ (on (s .fifo .enabled) && entryErrors (s .rx))  -- 7 FIFO on and some entry has an error
     ∷ [])
 
@@ -35,7 +35,7 @@ unfoldable pub clearErrors : EntryQueue → EntryQueue
 clearErrors q =
     record { entries = set (q .entries) 0 (record { byte = oldest q .byte; pe = 0; fe = 0; bi = 0 }); count = q .count }
 
--- then OE and the oldest entry's errors are cleared. Errors go with their entry in both modes (house rule)
+-- then OE and the oldest entry's errors (PE, FE, BI) are cleared. Errors go with their entry in both modes (house rule)
 unfoldable pub lsrRead : State → Reading
 lsrRead s =
     record { byte = lsr s; state = withLatches (withRx s (clearErrors (s .rx))) (withOverrun (s .latches) 0) }

@@ -14,7 +14,7 @@ withLevels s t =
     (effectiveLevels (s .registers) (s .inputs))
     (effectiveLevels (t .registers) (t .inputs))))
 
--- bits 4..7 the effective levels CTS, DSR, RI, DCD; 0..3 their changes, then cleared
+-- bits 4..7 the effective levels CTS, DSR, RI, DCD; 0..3 their changes (DCTS, DDSR, TERI, DDCD), then cleared
 unfoldable pub msrRead : State → Reading
 msrRead s =
     record {

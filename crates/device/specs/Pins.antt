@@ -1,4 +1,5 @@
--- The output pins (SLLS191C, "terminal functions"; 003, loopback; document 01, "Loopback" and "Interrupts").
+-- The output pins (SLLS191C, "terminal functions", "modem control register (MCR)" and LCR bit 6; document 01,
+-- "Loopback" and "Interrupts").
 use Prim.Native.Nat.{ℕ}
 use mathlib.Core.Bool.{cond, not, _&&_}
 use lib.Dec.{eqb}
@@ -14,8 +15,8 @@ unfoldable pub intrpt : State → ℕ
 intrpt s = bitOf (not (eqb (interruptCode s) 0x01))
 
 -- in loopback SOUT is high and RTS, DTR, OUT1, OUT2 are not asserted. Outside, SOUT is the transmitter's line and the
--- others are MCR1 without hold, MCR0, MCR2, MCR3. LCR6 makes SOUT low outside loopback and touches nothing else (house
--- rule)
+-- others are MCR1 without hold, MCR0, MCR2, MCR3. LCR6 (break control) makes SOUT low outside loopback and touches
+-- nothing else (house rule)
 unfoldable pub outputs : State → Outputs
 outputs s =
     cond (loopback (s .registers))

@@ -1,7 +1,7 @@
 -- A well-formed state obeys these ranges; any other is refused (document 01, "The state"). They come in five groups; a
 -- range that joins two groups stands in the later one. That an array has 64 places and a byte is below 256 is what the
 -- types of src/lib.rt say, and no range.
-use Prim.Native.Nat.{ℕ, _+_, _-_, _*_, _/_, _^_, min}
+use Prim.Native.Nat.{ℕ, _-_, _^_, min}
 use mathlib.Core.Bool.{Bool, cond, not, _&&_, _||_}
 use mathlib.Core.List.{List, [], _∷_, _++_}
 use lib.Dec.{leb, ltb, eqb}
@@ -18,8 +18,10 @@ use Rattle.device.specs.declared.Frame.{Frame}
 use Rattle.device.specs.declared.Receiver.{Receiver}
 use Rattle.device.specs.declared.Latches.{Latches}
 use Rattle.device.specs.declared.State.{State}
+use Rattle.device.specs.State.{characterPhase}
 use Rattle.device.specs.Fifo.{capacity, triggerLevel}
 use Rattle.device.specs.Autoflow.{autoflow, autoRts}
+use Rattle.device.specs.Receiver.{stopPosition, samplesTaken}
 
 -- Group 1: registers, divisor and k.
 abbrev pub registerRanges : Registers → Baud → List Bool
@@ -54,21 +56,13 @@ transmitRanges f q x =
     ∷ implies (eqb (x .left) 0) (eqb (x .byte) 0 && eqb (x .format) 0)  -- all zero if L = 0
     ∷ []
 
--- the position of the first stop sample, which ends a character: samples fall at 8, 24, 40 and so on
-abbrev pub stopPosition : ℕ → ℕ
-stopPosition f = 8 + 16 * (1 + dataBits f + parityBits f)
-
--- the data and parity samples taken up to position P: the first falls at 24
-abbrev pub samplesTaken : ℕ → ℕ
-samplesTaken p = (p - 8) / 16
-
 -- in a character
 abbrev pub characterRanges : Receiver → List Bool
 characterRanges v =
     leb (v .format) 63  -- format 0..63
     ∷ ltb (v .position) (stopPosition (v .format))  -- P is below its stop position
-    ∷ ltb (v .samples) (2 ^ min (dataBits (v .format)) (samplesTaken (v .position)))  -- data not yet sampled zero
-    ∷ leb (v .parity) (min (parityBits (v .format)) (samplesTaken (v .position) - dataBits (v .format)))  -- parity: 0 until its sample
+    ∷ ltb (v .samples) (2 ^ min (dataBits (v .format)) (samplesTaken (v .position)))  -- not yet sampled: zero, data
+    ∷ leb (v .parity) (min (parityBits (v .format)) (samplesTaken (v .position) - dataBits (v .format)))  -- and parity
     ∷ []
 
 -- not in a character
@@ -81,8 +75,8 @@ receiveRanges f q v =
     leb (q .count) (capacity f)  -- count within the capacity
     ∷ entryRest q  -- places beyond the count are zero
     ∷ entryFlags q  -- PE, FE, BI 0 or 1
-    ∷ leb (v .phase) 2  -- 0 idle, 1 waiting for mark, 2 in a character
-    ∷ cond (eqb (v .phase) 2) (every (characterRanges v)) (every (outsideRanges v))
+    ∷ leb (v .phase) characterPhase  -- idle, waiting for mark, or in a character
+    ∷ cond (eqb (v .phase) characterPhase) (every (characterRanges v)) (every (outsideRanges v))
     ∷ []
 
 -- Group 5: latches, idle count, change bits, hold; m bytes are queued to transmit, n received.
@@ -96,7 +90,7 @@ queueLatchRanges f m n l =
     ∷ leb (l .timeout) 1  -- time-out latch
     ∷ implies (on (l .timeout)) (on (f .enabled) && ltb 0 n)  -- only with FIFO on and received data waiting
     ∷ leb (l .idle) 769  -- idle count 0..769
-    ∷ implies (not (on (f .enabled)) || eqb n 0) (eqb (l .idle) 0)  -- 0 if the receive queue is empty or the FIFO is off
+    ∷ implies (not (on (f .enabled)) || eqb n 0) (eqb (l .idle) 0)  -- 0 if nothing is received or the FIFO is off
     ∷ []
 
 -- the change bits and RTS hold

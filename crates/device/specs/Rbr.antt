@@ -1,4 +1,5 @@
--- RBR, receiver buffer register (SLLS191C, "receiver buffer register (RBR)"; document 01, "RBR read").
+-- RBR, receiver buffer register (SLLS191C, "receiver buffer register (RBR)" and "FIFO interrupt mode operation";
+-- document 01, "RBR read").
 use Prim.Native.Nat.{ℕ}
 use mathlib.Core.Bool.{cond}
 use lib.Dec.{eqb}
@@ -28,4 +29,7 @@ unfoldable pub rbrRead : State → Reading
 rbrRead s =
     cond (eqb (s .rx .count) 0)
     (seen s 0)
-    (record { byte = oldest (s .rx) .byte; state = withLatches (withRx s (takeEntry (s .rx))) (restartIdle (s .latches)) })
+    (record {
+      byte = oldest (s .rx) .byte;
+      state = withLatches (withRx s (takeEntry (s .rx))) (restartIdle (s .latches));
+    })

@@ -68,3 +68,5 @@ pub record Rows : Type 0 where
   pub row16-rises : reading (modemOf freshOf 4 .state) 6 ≡ 0x40
   pub row16-seven : readOf freshOf 7 .number ≡ 0
   pub row16-eight : readOf freshOf 8 .number ≡ 2
+  pub row16-seven-written : writeOf freshOf 7 0 .number ≡ 0
+  pub row16-eight-written : writeOf freshOf 8 0 .number ≡ 2

@@ -1,5 +1,5 @@
 -- The state of the device: parts put in place of others, the fresh state, and what reset gives (document 01, "The
--- state"). The structs and their fields are those of src/lib.rt.
+-- state"; SLLS191C, table 2). The structs and their fields are declared in src/lib.rt.
 use Prim.Native.Nat.{ℕ}
 use Rattle.queue.specs.declared.ByteQueue.{ByteQueue}
 use Rattle.queue.specs.declared.EntryQueue.{EntryQueue}
@@ -13,43 +13,58 @@ use Rattle.device.specs.declared.Receiver.{Receiver}
 use Rattle.device.specs.declared.Latches.{Latches}
 use Rattle.device.specs.declared.State.{State}
 
+-- a state of these parts
+abbrev pub state : Registers → Baud → FifoControl → Inputs → ByteQueue → Frame → EntryQueue → Receiver → Latches → State
+state r b f i t x q v l =
+    record {
+      registers = r;
+      baud = b;
+      fifo = f;
+      inputs = i;
+      tx = t;
+      frame = x;
+      rx = q;
+      receiver = v;
+      latches = l;
+    }
+
 -- The state with one part put in place of the old.
 
 abbrev pub withRegisters : State → Registers → State
 withRegisters s p =
-    record { registers = p; baud = s .baud; fifo = s .fifo; inputs = s .inputs; tx = s .tx; frame = s .frame; rx = s .rx; receiver = s .receiver; latches = s .latches }
+    state p (s .baud) (s .fifo) (s .inputs) (s .tx) (s .frame) (s .rx) (s .receiver) (s .latches)
 
 abbrev pub withBaud : State → Baud → State
 withBaud s p =
-    record { registers = s .registers; baud = p; fifo = s .fifo; inputs = s .inputs; tx = s .tx; frame = s .frame; rx = s .rx; receiver = s .receiver; latches = s .latches }
+    state (s .registers) p (s .fifo) (s .inputs) (s .tx) (s .frame) (s .rx) (s .receiver) (s .latches)
 
 abbrev pub withFifo : State → FifoControl → State
 withFifo s p =
-    record { registers = s .registers; baud = s .baud; fifo = p; inputs = s .inputs; tx = s .tx; frame = s .frame; rx = s .rx; receiver = s .receiver; latches = s .latches }
+    state (s .registers) (s .baud) p (s .inputs) (s .tx) (s .frame) (s .rx) (s .receiver) (s .latches)
 
 abbrev pub withInputs : State → Inputs → State
 withInputs s p =
-    record { registers = s .registers; baud = s .baud; fifo = s .fifo; inputs = p; tx = s .tx; frame = s .frame; rx = s .rx; receiver = s .receiver; latches = s .latches }
+    state (s .registers) (s .baud) (s .fifo) p (s .tx) (s .frame) (s .rx) (s .receiver) (s .latches)
 
 abbrev pub withTx : State → ByteQueue → State
 withTx s p =
-    record { registers = s .registers; baud = s .baud; fifo = s .fifo; inputs = s .inputs; tx = p; frame = s .frame; rx = s .rx; receiver = s .receiver; latches = s .latches }
+    state (s .registers) (s .baud) (s .fifo) (s .inputs) p (s .frame) (s .rx) (s .receiver) (s .latches)
 
 abbrev pub withFrame : State → Frame → State
 withFrame s p =
-    record { registers = s .registers; baud = s .baud; fifo = s .fifo; inputs = s .inputs; tx = s .tx; frame = p; rx = s .rx; receiver = s .receiver; latches = s .latches }
+    state (s .registers) (s .baud) (s .fifo) (s .inputs) (s .tx) p (s .rx) (s .receiver) (s .latches)
 
 abbrev pub withRx : State → EntryQueue → State
 withRx s p =
-    record { registers = s .registers; baud = s .baud; fifo = s .fifo; inputs = s .inputs; tx = s .tx; frame = s .frame; rx = p; receiver = s .receiver; latches = s .latches }
+    state (s .registers) (s .baud) (s .fifo) (s .inputs) (s .tx) (s .frame) p (s .receiver) (s .latches)
 
 abbrev pub withReceiver : State → Receiver → State
 withReceiver s p =
-    record { registers = s .registers; baud = s .baud; fifo = s .fifo; inputs = s .inputs; tx = s .tx; frame = s .frame; rx = s .rx; receiver = p; latches = s .latches }
+    state (s .registers) (s .baud) (s .fifo) (s .inputs) (s .tx) (s .frame) (s .rx) p (s .latches)
 
 abbrev pub withLatches : State → Latches → State
 withLatches s p =
-    record { registers = s .registers; baud = s .baud; fifo = s .fifo; inputs = s .inputs; tx = s .tx; frame = s .frame; rx = s .rx; receiver = s .receiver; latches = p }
+    state (s .registers) (s .baud) (s .fifo) (s .inputs) (s .tx) (s .frame) (s .rx) (s .receiver) p
 
 -- The registers with one of them put in place of the old.
 
@@ -65,33 +80,33 @@ withLcr r b = record { ier = r .ier; mcr = r .mcr; lcr = b; scr = r .scr }
 abbrev pub withScr : Registers → ℕ → Registers
 withScr r b = record { ier = r .ier; mcr = r .mcr; lcr = r .lcr; scr = b }
 
--- The latches with one of them put in place of the old.
+-- these latches and this idle count
+abbrev pub latches : ℕ → ℕ → ℕ → ℕ → ℕ → ℕ → Latches
+latches e o t c h n =
+    record { empty = e; overrun = o; timeout = t; changes = c; hold = h; idle = n }
+
+-- The latches with one of them put in place of the old: the transmit-empty latch, OE, the time-out latch, the change
+-- bits of MSR, RTS hold, the idle count.
 
 abbrev pub withEmpty : Latches → ℕ → Latches
-withEmpty l e =
-    record { empty = e; overrun = l .overrun; timeout = l .timeout; changes = l .changes; hold = l .hold; idle = l .idle }
+withEmpty l e = latches e (l .overrun) (l .timeout) (l .changes) (l .hold) (l .idle)
 
 abbrev pub withOverrun : Latches → ℕ → Latches
-withOverrun l o =
-    record { empty = l .empty; overrun = o; timeout = l .timeout; changes = l .changes; hold = l .hold; idle = l .idle }
+withOverrun l o = latches (l .empty) o (l .timeout) (l .changes) (l .hold) (l .idle)
 
 abbrev pub withTimeout : Latches → ℕ → Latches
-withTimeout l t =
-    record { empty = l .empty; overrun = l .overrun; timeout = t; changes = l .changes; hold = l .hold; idle = l .idle }
+withTimeout l t = latches (l .empty) (l .overrun) t (l .changes) (l .hold) (l .idle)
 
 abbrev pub withChanges : Latches → ℕ → Latches
-withChanges l c =
-    record { empty = l .empty; overrun = l .overrun; timeout = l .timeout; changes = c; hold = l .hold; idle = l .idle }
+withChanges l c = latches (l .empty) (l .overrun) (l .timeout) c (l .hold) (l .idle)
 
 abbrev pub withHold : Latches → ℕ → Latches
-withHold l h =
-    record { empty = l .empty; overrun = l .overrun; timeout = l .timeout; changes = l .changes; hold = h; idle = l .idle }
+withHold l h = latches (l .empty) (l .overrun) (l .timeout) (l .changes) h (l .idle)
 
 abbrev pub withIdle : Latches → ℕ → Latches
-withIdle l n =
-    record { empty = l .empty; overrun = l .overrun; timeout = l .timeout; changes = l .changes; hold = l .hold; idle = n }
+withIdle l n = latches (l .empty) (l .overrun) (l .timeout) (l .changes) (l .hold) n
 
--- The baud generator with k, or with the divisor D and k = D.
+-- The baud generator with k, the ticks to the next pulse, or with the divisor D and k = D.
 
 abbrev pub withK : State → ℕ → State
 withK s k = withBaud s (record { divisor = s .baud .divisor; k = k })
@@ -103,15 +118,27 @@ withDivisor s d = withBaud s (record { divisor = d; k = d })
 abbrev pub noFrame : Frame
 noFrame = record { left = 0; byte = 0; format = 0 }
 
+-- The receiver's phases: idle, waiting for mark, in a character.
+
+abbrev pub idlePhase : ℕ
+idlePhase = 0
+
+abbrev pub waitingPhase : ℕ
+waitingPhase = 1
+
+abbrev pub characterPhase : ℕ
+characterPhase = 2
+
 -- the receiver is idle
 abbrev pub idleReceiver : Receiver
-idleReceiver = record { phase = 0; format = 0; samples = 0; parity = 0; position = 0 }
+idleReceiver = record { phase = idlePhase; format = 0; samples = 0; parity = 0; position = 0 }
 
 -- no latch is set
 abbrev pub noLatches : Latches
 noLatches = record { empty = 0; overrun = 0; timeout = 0; changes = 0; hold = 0; idle = 0 }
 
--- Fresh: IER, LCR, MCR, SCR, D, k 0; FIFO off, its bits 0; SIN 1, modem pins 0; queues empty; receiver idle; the rest 0.
+-- Fresh: IER, LCR, MCR, SCR, D, k 0; FIFO off, its bits 0; SIN 1, modem pins 0; queues empty; receiver idle; the rest
+-- 0.
 unfoldable pub freshOf : State
 freshOf =
     record {

@@ -1,4 +1,5 @@
--- A tick of the clock (document 01, "A tick").
+-- A tick of the clock, XIN, which the baud generator divides by D; a pulse is one of its 16x clock, which RCLK is too
+-- (SLLS191C, "programmable baud generator"; document 01, "A tick").
 use Prim.Native.Nat.{_-_}
 use mathlib.Core.Bool.{cond}
 use lib.Dec.{eqb}

@@ -1,4 +1,5 @@
--- The transmitter's part of a pulse (document 01, "A tick", 1).
+-- The transmitter's part of a pulse: the transmitter shift register, TSR, and its load from the queue (SLLS191C,
+-- "transmitter holding register (THR)"; document 01, "A tick", 1).
 use Prim.Native.Nat.{ℕ, _-_}
 use mathlib.Core.Bool.{Bool, cond, not, _&&_}
 use lib.Dec.{eqb}
@@ -15,11 +16,15 @@ use Rattle.device.specs.Autoflow.{held}
 abbrev pub line : Frame → ℕ
 line x = lineLevel (x .left) (x .byte) (x .format)
 
+-- the frame of byte b in format f at its start: L = F
+abbrev pub frameOf : ℕ → ℕ → Frame
+frameOf b f = record { left = frameLength f; byte = b; format = f }
+
 -- the oldest byte is taken with the present LCR as format and L = F. Emptying the queue sets the latch
 unfoldable pub loaded : State → State
 loaded s =
-    let f = formatOf (s .registers .lcr) in
-    let t = withTx (withFrame s (record { left = frameLength f; byte = getD (s .tx .bytes) 0 0; format = f })) (takeByte (s .tx)) in
+    let x = frameOf (getD (s .tx .bytes) 0 0) (formatOf (s .registers .lcr)) in
+    let t = withTx (withFrame s x) (takeByte (s .tx)) in
     cond (eqb (s .tx .count) 1) (withLatches t (withEmpty (s .latches) 1)) t
 
 -- a byte is queued and the transmitter isn't held

@@ -1,7 +1,7 @@
 // Where the samples of a received character fall.
 ghost use mathlib.Core.Path.{_≡_};
 ghost use Prim.Native.Nat.{_≤_};
-ghost use Rattle.device.specs.Ranges.{stopPosition, samplesTaken};
+ghost use Rattle.device.specs.Receiver.{stopPosition, samplesTaken};
 
 // The position of the first stop sample, which ends a character.
 pub fn stop_position(format: u8) -> u32

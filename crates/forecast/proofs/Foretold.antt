@@ -9,13 +9,13 @@ use borrow.Author.Tests.{eq-eqb, eqb-true, eqb-false, ltb-true, ltb-false}
 use Rattle.flag.proofs.Laws.{and-left, and-right, and-both}
 use Rattle.frame.specs.Format.{formatOf, frameLength}
 use Rattle.frame.specs.Forecast.{workLeft, pulsesLeft, ticksLeft, spelled, levelAfter}
-use Rattle.frame.specs.Transmitter.{Empty, Ready, ticks, lineOf, forecast, foretoldLevel}
+use Rattle.frame.proofs.Transmitter.{Empty, Ready, ticks, lineOf, forecast, foretoldLevel}
 use Rattle.frame.proofs.Foretold as theorem
 use Rattle.frame.proofs.Stopped.{stopped-never-empty, held-never-empty}
 use Rattle.queue.specs.Queue.{contents}
 use Rattle.device.specs.declared.State.{State}
 use Rattle.device.specs.Autoflow.{held}
-use Rattle.device.specs.Lsr.{transmitterEmpty}
+use Rattle.device.specs.Lsr.{temt}
 use Rattle.device.specs.Ranges.{wellFormed}
 use Rattle.device.specs.Calls.{done, tickOf, ticksOf}
 use Rattle.device.specs.Forecast.{ticksToCome, levelToCome, noClock, heldBack, forecastNumber, usedOf, Foretold, StopsInTime}
@@ -29,14 +29,14 @@ use Rattle.forecast.proofs.Projected.{transmitterOf, kept-within, count
 count-of : (s : State) → Kept s → length (contents (s .tx .count) (s .tx .bytes)) ≡ s .tx .count
 count-of s w = count-queued (s .tx) (kept-within s w)
 
-empty-of : (s : State) → Kept s → Empty (transmitterOf s) → transmitterEmpty s ≡ true
-unfolding transmitterEmpty
+empty-of : (s : State) → Kept s → Empty (transmitterOf s) → temt s ≡ true
+unfolding temt
 empty-of s w e =
     let none : s .tx .count ≡ 0 = sym (count-of s w) ∙ ap length (e .taken) in
     and-both (eqb (s .tx .count) 0) (eqb (s .frame .left) 0) (eq-eqb (s .tx .count) 0 none) (eq-eqb (s .frame .left) 0 (e .sent))
 
-of-empty : (s : State) → transmitterEmpty s ≡ true → Empty (transmitterOf s)
-unfolding transmitterEmpty
+of-empty : (s : State) → temt s ≡ true → Empty (transmitterOf s)
+unfolding temt
 of-empty s e =
     record {
       sent = eqb-true (s .frame .left) 0 (and-right (eqb (s .tx .count) 0) (eqb (s .frame .left) 0) e);
@@ -112,7 +112,7 @@ foretold s w e t =
 -- Run.
 
 -- where the forecast is 4 or 5 the transmitter never empties
-never-empty : (s : State) → Kept s → (forecastNumber s ≡ 0 → ⊥) → (t : ℕ) → transmitterEmpty (ticksOf t s) ≡ true → ⊥
+never-empty : (s : State) → Kept s → (forecastNumber s ≡ 0 → ⊥) → (t : ℕ) → temt (ticksOf t s) ≡ true → ⊥
 unfolding forecastNumber noClock heldBack
 never-empty s w n t h = go (noClock s) refl (heldBack s) refl
   where
@@ -145,11 +145,11 @@ stops-in-time s w n = go (eqb (forecastNumber s) 0) refl
         record {
           within = omega arith;
           empty = λ h. claim (min n (ticksToCome s)) .empties (omega arith);
-          not-before = λ t h. bool-false (transmitterEmpty (ticksOf t s)) (λ e. let l = claim t .not-before e in absurd (omega arith));
+          not-before = λ t h. bool-false (temt (ticksOf t s)) (λ e. let l = claim t .not-before e in absurd (omega arith));
         }
     go false p =
         record {
           within = omega arith;
           empty = λ h. absurd (omega arith);
-          not-before = λ t h. bool-false (transmitterEmpty (ticksOf t s)) (never-empty s w (eqb-false (forecastNumber s) 0 p) t);
+          not-before = λ t h. bool-false (temt (ticksOf t s)) (never-empty s w (eqb-false (forecastNumber s) 0 p) t);
         }

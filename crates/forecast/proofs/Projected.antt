@@ -10,7 +10,7 @@ use lib.Seq.{length-take-le}
 use borrow.Author.Tests.{eqb-false}
 use Rattle.flag.proofs.Laws.{cond-map, cond-same}
 use Rattle.frame.specs.Format.{formatOf, frameLength}
-use Rattle.frame.specs.Transmitter.{Transmitter, withFrame as atFrame, pulse, tick, ticks}
+use Rattle.frame.proofs.Transmitter.{Transmitter, withFrame as atFrame, pulse, tick, ticks}
 use Rattle.queue.specs.declared.ByteQueue.{ByteQueue}
 use Rattle.queue.specs.Queue.{contents, takeByte}
 use Rattle.queue.proofs.Contents.{take-oldest, take-contents}
@@ -20,7 +20,7 @@ use Rattle.device.specs.declared.State.{State}
 use Rattle.device.specs.State.{withFrame, noFrame, withK}
 use Rattle.device.specs.Autoflow.{held, settled}
 use Rattle.device.specs.Transmitter.{loaded, ready, shiftedOut, transmitted}
-use Rattle.device.specs.Receiver.{reception, enters, entered, accepted, received}
+use Rattle.device.specs.Receiver.{receiverPulseOf, enters, withEntry, withReceived, received}
 use Rattle.device.specs.Idle.{counts, idled}
 use Rattle.device.specs.Tick.{pulsed, ticked}
 use Rattle.device.specs.Calls.{done, tickOf, ticksOf}
@@ -92,8 +92,8 @@ transmitted-transmitter s w =
 
 -- the other parts do not touch it
 received-transmitter : (s : State) → transmitterOf (received s) ≡ transmitterOf s
-unfolding received accepted entered
-received-transmitter s = cond-same transmitterOf (reception s .ended) _ _ _ refl refl
+unfolding received withReceived withEntry
+received-transmitter s = cond-same transmitterOf (receiverPulseOf s .ended) _ _ _ refl refl
 
 idled-transmitter : (new : Bool) (s : State) → transmitterOf (idled new s) ≡ transmitterOf s
 unfolding idled

@@ -11,7 +11,7 @@ use lib.Seq.{getD-drop}
 use lib.Dec.{eqb, eqb·suc-zero}
 use Rattle.frame.specs.Format.{frameLength}
 use Rattle.frame.specs.Forecast.{workLeft, ticksLeft, queuedLevels, spelled, levelAfter}
-use Rattle.frame.specs.Transmitter.{Transmitter, withK, pulse, tick, ticks, lineOf, Empty, pulsesOf, forecast, stringOf, foretoldLevel, Ready, Foretold}
+use Rattle.frame.proofs.Transmitter.{Transmitter, withK, pulse, tick, ticks, lineOf, Empty, pulsesOf, forecast, stringOf, foretoldLevel, Ready, Foretold}
 use Rattle.frame.proofs.Clock.{pulsesIn, level-after-pulses, place-shifts-at-quiet-tick, ticks-fall-at-quiet-tick, place-shifts-at-pulse, ticks-fall-at-pulse, place-starts-at-zero, no-ticks-no-pulses}
 use Rattle.frame.proofs.Spelled.{spelled-nothing, length-spelled, drops-one-at-end, drops-one-within, taken-spells-frame, line-is-first, work-has-pulses, no-work-is-empty}
 use Rattle.frame.proofs.Ticks.{by-pulse, by-tick}

@@ -1,3 +1,4 @@
+pub mod Transmitter
 pub mod Frames
 pub mod Clock
 pub mod Spelled

@@ -6,7 +6,7 @@ use mathlib.Core.Bool.{Bool, true, false, _||_, true≢false, false≢true}
 use lib.ListN.{length}
 use lib.Dec.{eqb}
 use Rattle.frame.specs.Forecast.{workLeft}
-use Rattle.frame.specs.Transmitter.{Transmitter, withK, pulse, tick, ticks, Empty}
+use Rattle.frame.proofs.Transmitter.{Transmitter, withK, pulse, tick, ticks, Empty}
 use Rattle.frame.proofs.Ticks.{by-pulse, by-tick, ticks-keep}
 
 -- D = 0 and work left (number 4)

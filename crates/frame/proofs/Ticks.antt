@@ -8,7 +8,7 @@ use lib.Dec.{eqb}
 use borrow.Author.Tests.{eqb-true, eqb-false}
 use Rattle.flag.proofs.Laws.{by-test}
 use Rattle.frame.specs.Format.{frameLength}
-use Rattle.frame.specs.Transmitter.{Transmitter, withK, withFrame, pulse, tick, ticks}
+use Rattle.frame.proofs.Transmitter.{Transmitter, withK, withFrame, pulse, tick, ticks}
 
 -- no byte is queued, or it is held
 abbrev pub nothingToTake : Transmitter → Bool

@@ -1,6 +1,7 @@
--- The forecast (document 01, "Forecast and run"): when the transmitter will be empty, and which level its line will have
--- after t ticks. L pulses are left of the frame now sent, n bytes are queued, F is the length of their frames, D the
--- divisor and k the ticks to the next pulse. What the bytes spell is built from the frames alone and not by ticking.
+-- The forecast (document 01, "Forecast and run"): when the transmitter will be empty, and which level its line will
+-- have after t ticks. L pulses are left of the frame now sent, n bytes are queued, F is the length of their frames, D
+-- the divisor and k the ticks to the next pulse. What the bytes spell is built from the frames alone and not by
+-- ticking.
 use Prim.Native.Nat.{ℕ, _+_, _-_, _*_, _/_}
 use mathlib.Core.Bool.{Bool, cond, _&&_, _||_}
 use mathlib.Core.List.{List, [], _∷_, _++_}
@@ -25,8 +26,8 @@ unfoldable pub queuedLevels : ℕ → List ℕ → List ℕ
 queuedLevels f [] = []
 queuedLevels f (b ∷ bs) = frameLevels b f ++ queuedLevels f bs
 
--- the string of p levels: the last L of the current frame, of byte x in its own format g (one high if L = 0 and bytes are
--- queued), then those of the queued bytes bs in f, the present LCR's format
+-- the string of p levels: the last L of the current frame, of byte x in its own format g (one high if L = 0 and bytes
+-- are queued), then those of the queued bytes bs in f, the present LCR's format
 unfoldable pub spelled : ℕ → ℕ → ℕ → ℕ → List ℕ → List ℕ
 spelled L x g f bs = cond (eqb L 0 && ltb 0 (length bs)) (1 ∷ []) (last L (frameLevels x g)) ++ queuedLevels f bs
 

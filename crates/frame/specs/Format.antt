@@ -1,5 +1,5 @@
--- What a format means. A format is bits 0..5 of LCR, a number 0..63 (document 01, "The state").
--- Sheet: SLLS191C, "line control register (LCR)", tables 6 and 7.
+-- What a format means. A format is bits 0..5 of LCR, a number 0..63 (SLLS191C, "line control register (LCR)", tables 6
+-- and 7; document 01, "The state" and "A tick").
 use Prim.Native.Nat.{ℕ, zero, suc, _+_, _*_, _/_, _%_, _^_}
 use mathlib.Core.Bool.{cond, not}
 use lib.Dec.{eqb}
@@ -9,15 +9,15 @@ use Rattle.flag.specs.Flag.{bit, bitOf}
 abbrev pub formatOf : ℕ → ℕ
 formatOf lcr = lcr % 64
 
--- bits 0 and 1: the word length, 5 to 8 data bits (table 6)
+-- bits 0 and 1 (WLS0, WLS1): the word length, 5 to 8 data bits (table 6)
 abbrev pub dataBits : ℕ → ℕ
 dataBits f = 5 + f % 4
 
--- bit 3: a parity bit follows the data, one or none
+-- bit 3 (PEN): a parity bit follows the data, one or none
 abbrev pub parityBits : ℕ → ℕ
 parityBits f = f / 8 % 2
 
--- bit 2: the stop pulses are 16, or 24 for five data bits and 32 otherwise (table 7)
+-- bit 2 (STB): the stop pulses are 16, or with it 24 for five data bits and 32 otherwise (table 7)
 unfoldable pub stopPulses : ℕ → ℕ
 stopPulses f = cond (bit 2 f) (cond (eqb (dataBits f) 5) 24 32) 16
 
@@ -34,8 +34,9 @@ unfoldable pub ones : ℕ → ℕ → ℕ
 ones zero x = 0
 ones (suc n) x = x % 2 + ones n (x / 2)
 
--- the parity bit: with bit 5 (stick parity) the opposite of bit 4; else it makes the number of ones in the character and
--- itself even with bit 4, odd without. Document 01 overrides the UM82450 sheet, whose stick parity text is a misprint.
+-- the parity bit: with bit 5 (stick parity) the opposite of bit 4 (EPS); else it makes the number of ones in the
+-- character and itself even with bit 4, odd without. Document 01 overrides UM82450, whose stick parity text is a
+-- misprint.
 unfoldable pub parityBit : ℕ → ℕ → ℕ
 parityBit x f =
     cond (bit 5 f)

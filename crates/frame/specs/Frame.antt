@@ -1,5 +1,6 @@
--- A frame on the line (document 01, "A tick"): the start bit, the data from bit 0, the parity bit, the stop; 16 pulses a
--- bit. `frameLevels` has the level of each of its F pulses.
+-- A frame on the line (SLLS191C, "line control register (LCR)" and note † of table 3; document 01, "A tick"): the start
+-- bit, the data from bit 0, the parity bit, the stop; 16 pulses a bit. `frameLevels` has the level of each of its F
+-- pulses.
 use Prim.Native.Nat.{ℕ, zero, suc, _-_, _/_, _%_}
 use mathlib.Core.Bool.{cond}
 use mathlib.Core.List.{List, [], _∷_, _++_}

@@ -1,4 +1,3 @@
 pub mod Format
 pub mod Frame
 pub mod Forecast
-pub mod Transmitter

@@ -25,7 +25,8 @@ use Rattle.device.specs.declared.State.{State}
 use Rattle.device.specs.State.{withEmpty, withOverrun, withTimeout, withChanges, withHold, withIdle}
 use Rattle.device.specs.Fifo.{capacity, byCode, triggerLevel}
 use Rattle.device.specs.Autoflow.{autoflow, autoRts}
-use Rattle.device.specs.Ranges.{registerRanges, settingRanges, transmitRanges, stopPosition, samplesTaken, characterRanges, outsideRanges, receiveRanges, latchRanges, wellFormed}
+use Rattle.device.specs.Receiver.{stopPosition, samplesTaken}
+use Rattle.device.specs.Ranges.{registerRanges, settingRanges, transmitRanges, characterRanges, outsideRanges, receiveRanges, latchRanges, wellFormed}
 use Rattle.invariant.proofs.Tests.{end, _&_, all-hold, implies-holds, holds-implies, picked-yes, picked-no, or-left, or-right, or-either, false-not}
 
 -- bit 0 of x is clear where x is even

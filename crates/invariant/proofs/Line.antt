@@ -22,14 +22,14 @@ use Rattle.device.specs.State.{withFrame, withTx, withLatches, withEmpty, withT
 use Rattle.device.specs.Fifo.{capacity}
 use Rattle.device.specs.Modem.{loopback}
 use Rattle.device.specs.Transmitter.{loaded, ready, shiftedOut, transmitted}
-use Rattle.device.specs.Receiver.{heard, reception, enters, entered, accepted, received}
+use Rattle.device.specs.Receiver.{heard, receiverPulseOf, enters, withEntry, withReceived, received}
 use Rattle.device.specs.Idle.{counts, timeOutAt, counted, idled}
 use Rattle.device.specs.Tick.{pulsed, ticked}
 use Rattle.invariant.proofs.Tests.{bit-most}
 use Rattle.invariant.proofs.Good.{FrameFacts, EmptyFacts, LatchFacts, latches-empty, latches-wait, latches-overrun}
 use Rattle.invariant.proofs.Settled.{Sound}
 use Rattle.invariant.proofs.Parts.{sound-registers, sound-transmit, sound-receive, sound-frame, sound-receiver, sound-latches, transmit-taken, receive-put, latches-more}
-use Rattle.invariant.proofs.Reception.{receive-facts}
+use Rattle.invariant.proofs.Reception.{receiver-pulse-facts}
 
 -- The levels of a line are 0 or 1.
 
@@ -119,9 +119,9 @@ count-more : (c n : ℕ) → n ≤ countPut c n
 unfolding countPut
 count-more c n = by-test (λ (m : ℕ). n ≤ m) (ltb n c) _ _ (λ _. omega arith) (λ _. omega arith)
 
-pub entered-sound : (s : State) (e : Entry) → flagsInRange e ≡ true → Sound s → Sound (entered s e)
-unfolding entered putEntry
-entered-sound s e t w =
+pub entry-sound : (s : State) (e : Entry) → flagsInRange e ≡ true → Sound s → Sound (withEntry s e)
+unfolding withEntry putEntry
+entry-sound s e t w =
     sound-receive w (putEntry c (s .rx) e) (s .receiver) _
     (length-put c n (s .rx .entries) e ∙ w .entries-long)
     (receive-put e t (w .receive))
@@ -137,11 +137,11 @@ entered-sound s e t w =
     overrun = by-test (λ (o : ℕ). o ≤ 1) (isFull c n) _ _ (λ _. omega arith) (λ _. w .latches .overrun-most)
 
 pub received-sound : (s : State) → Sound s → Sound (received s)
-unfolding received accepted
+unfolding received withReceived
 received-sound s w =
-    let g = receive-facts (heard s) (s .registers .lcr) (s .receiver) (heard-most s w) (w .receive .receiver) in
-    let kept = sound-receiver w (reception s .receiver) (g .receiver) in
-    by-test Sound (reception s .ended) _ _ (λ _. entered-sound _ (reception s .entry) (g .flags) kept) (λ _. kept)
+    let g = receiver-pulse-facts (heard s) (s .registers .lcr) (s .receiver) (heard-most s w) (w .receive .receiver) in
+    let kept = sound-receiver w (receiverPulseOf s .receiver) (g .receiver) in
+    by-test Sound (receiverPulseOf s .ended) _ _ (λ _. entry-sound _ (receiverPulseOf s .entry) (g .flags) kept) (λ _. kept)
 
 -- The idle count.
 

@@ -12,8 +12,8 @@ use Rattle.queue.specs.Queue.{flagsInRange}
 use Rattle.device.specs.declared.Receiver.{Receiver}
 use Rattle.device.specs.declared.Received.{Received}
 use Rattle.device.specs.State.{idleReceiver}
-use Rattle.device.specs.Ranges.{stopPosition, samplesTaken}
-use Rattle.device.specs.Receiver.{goesOn, startAt, waiting, isBreak, entryOf, stopSample, atPosition, sampled, inCharacter, receive}
+use Rattle.device.specs.Receiver.{stopPosition, samplesTaken}
+use Rattle.device.specs.Receiver.{goesOn, startAt, waiting, isBreak, entryOf, stopSample, atPosition, sampled, inCharacter, receiverPulse}
 use Rattle.invariant.proofs.Tests.{bit-most}
 use Rattle.invariant.proofs.Good.{CharacterFacts, OutsideFacts, ReceiverFacts}
 use Rattle.invariant.proofs.Sampling.{none-taken, none-at-start, one-taken, character-on, character-data, character-parity}
@@ -107,9 +107,9 @@ module _ (h lcr : ℕ) (v : Receiver) (most : h ≤ 1) (two : v .phase ≡ 2) (c
           let off : p % 16 ≡ 8 → ⊥ = eqb-false (p % 16) 8 a in
           on-facts (omega arith) (none-taken (v .position) off)
 
-pub receive-facts : (h lcr : ℕ) (v : Receiver) → h ≤ 1 → ReceiverFacts v → ReceivedFacts (receive h lcr v)
-unfolding receive
-receive-facts h lcr v most g = by-test ReceivedFacts (eqb (v .phase) 2) _ _ character (λ _. by-test ReceivedFacts (eqb (v .phase) 1) _ _ mark idle)
+pub receiver-pulse-facts : (h lcr : ℕ) (v : Receiver) → h ≤ 1 → ReceiverFacts v → ReceivedFacts (receiverPulse h lcr v)
+unfolding receiverPulse
+receiver-pulse-facts h lcr v most g = by-test ReceivedFacts (eqb (v .phase) 2) _ _ character (λ _. by-test ReceivedFacts (eqb (v .phase) 1) _ _ mark idle)
   where
     character : eqb (v .phase) 2 ≡ true → ReceivedFacts (inCharacter h lcr (v .position + 1) v)
     character e =

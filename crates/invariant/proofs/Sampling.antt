@@ -5,7 +5,7 @@ use native.Mathlib.Nat.{min-eq-right, min-eq-left, pow-succ', mul-le-mul}
 use native.Mathlib.Omega.{arith}
 use Rattle.frame.specs.Format.{dataBits}
 use Rattle.device.specs.declared.Receiver.{Receiver}
-use Rattle.device.specs.Ranges.{stopPosition, samplesTaken}
+use Rattle.device.specs.Receiver.{stopPosition, samplesTaken}
 use Rattle.invariant.proofs.Good.{CharacterFacts}
 
 -- between two samples none is taken, nor at 8, where the start bit's falls

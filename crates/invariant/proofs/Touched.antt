@@ -16,7 +16,7 @@ use Rattle.device.specs.Msr.{withLevels}
 use Rattle.device.specs.Scr.{scrWrite}
 use Rattle.device.specs.Divisor.{divisorLowWrite, divisorHighWrite}
 use Rattle.device.specs.Transmitter.{loaded, ready, shiftedOut, transmitted}
-use Rattle.device.specs.Receiver.{reception, enters, entered, accepted, received}
+use Rattle.device.specs.Receiver.{receiverPulseOf, enters, withEntry, withReceived, received}
 use Rattle.device.specs.Idle.{counts, idled}
 use Rattle.device.specs.Tick.{pulsed}
 use Rattle.device.specs.Calls.{writeRegister}
@@ -90,8 +90,8 @@ transmitted-touches s =
     by-test (Touches byPulse s) (eqb (shiftedOut (s .frame) .left) 0 && ready s) _ _ (λ _. loaded-touches s) (λ _. refl)
 
 received-touches : (s : State) → Touches byPulse s (received s)
-unfolding received accepted entered
-received-touches s = by-test (Touches byPulse s) (reception s .ended) _ _ (λ _. refl) (λ _. refl)
+unfolding received withReceived withEntry
+received-touches s = by-test (Touches byPulse s) (receiverPulseOf s .ended) _ _ (λ _. refl) (λ _. refl)
 
 idled-touches : (new : Bool) (s : State) → Touches byPulse s (idled new s)
 unfolding idled

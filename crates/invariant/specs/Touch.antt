@@ -24,15 +24,48 @@ pub record Parts : Type 0 where
 
 -- a write that reaches no queue
 abbrev pub byNumbers : Parts
-byNumbers = record { registers = true; baud = true; fifo = false; inputs = false; tx = false; frame = false; rx = false; receiver = false; latches = true }
+byNumbers =
+    record {
+      registers = true;
+      baud = true;
+      fifo = false;
+      inputs = false;
+      tx = false;
+      frame = false;
+      rx = false;
+      receiver = false;
+      latches = true;
+    }
 
 -- a write to THR
 abbrev pub byTransmit : Parts
-byTransmit = record { registers = false; baud = false; fifo = false; inputs = false; tx = true; frame = false; rx = false; receiver = false; latches = true }
+byTransmit =
+    record {
+      registers = false;
+      baud = false;
+      fifo = false;
+      inputs = false;
+      tx = true;
+      frame = false;
+      rx = false;
+      receiver = false;
+      latches = true;
+    }
 
 -- a pulse
 abbrev pub byPulse : Parts
-byPulse = record { registers = false; baud = false; fifo = false; inputs = false; tx = true; frame = true; rx = true; receiver = true; latches = true }
+byPulse =
+    record {
+      registers = false;
+      baud = false;
+      fifo = false;
+      inputs = false;
+      tx = true;
+      frame = true;
+      rx = true;
+      receiver = true;
+      latches = true;
+    }
 
 -- the state s with these parts of t in place of its own
 abbrev pub merged : Parts → State → State → State

@@ -4,7 +4,7 @@ use Rattle.frame.specs.Format.{dataBits, frameLength}
 use Rattle.device.specs.declared.Frame.{Frame}
 use Rattle.device.specs.declared.Receiver.{Receiver}
 use Rattle.device.specs.declared.State.{State}
-use Rattle.device.specs.Ranges.{samplesTaken}
+use Rattle.device.specs.Receiver.{samplesTaken}
 
 -- L is at most the frame's length
 pub record Sent (x : Frame) : Type 0 where

@@ -18,7 +18,7 @@ ghost use Prim.Native.Nat.{_≤_};
 ghost use Rattle.queue.specs.Queue.{isFull};
 ghost use Rattle.device.specs.Fifo.{capacity};
 ghost use Rattle.device.specs.Transmitter.{line};
-ghost use Rattle.device.specs.Receiver.{goesOn, startAt, isBreak, entryOf, stopSample, sampled, atPosition, inCharacter, receive as «receive-of», reception, entered, accepted};
+ghost use Rattle.device.specs.Receiver.{goesOn, startAt, isBreak, entryOf, stopSample, sampled, atPosition, inCharacter, receiverPulse, receiverPulseOf, withEntry, withReceived};
 ghost use Rattle.line.specs.Needs.{Sampling, Sent, Hearing};
 
 // The receiver in no character: idle, or waiting for mark.
@@ -155,7 +155,7 @@ fn in_character(level: u8, lcr: u8, position: u32, v: Receiver) -> Received
 // What a pulse that hears a level makes of the receiver.
 pub fn receive(level: u8, lcr: u8, v: Receiver) -> Received
     requires { ⌜ Sampling level v ⌝ }
-    ensures { λ r. ⌜ r ≡ «receive-of» level lcr v ⌝ }
+    ensures { λ r. ⌜ r ≡ receiverPulse level lcr v ⌝ }
 {
     if v.phase == CHARACTER {
         return in_character(level, lcr, v.position + 1, v);
@@ -187,7 +187,7 @@ pub fn heard(loopback: bool, x: Frame, sin: u8) -> u8
 // What this pulse makes of the receiver.
 pub fn hear(s: State) -> Received
     requires { ⌜ Hearing s ⌝ }
-    ensures { λ r. ⌜ r ≡ reception s ⌝ }
+    ensures { λ r. ⌜ r ≡ receiverPulseOf s ⌝ }
 {
     let r = s.registers;
     let x = s.frame;
@@ -221,7 +221,7 @@ fn overrun(full: bool, before: u8) -> u8
 
 // An entry is put into the queue. A full queue sets OE.
 fn enter(s: State, e: Entry) -> State
-    ensures { λ r. ⌜ r ≡ entered s e ⌝ }
+    ensures { λ r. ⌜ r ≡ withEntry s e ⌝ }
 {
     let f = s.fifo;
     let q = s.rx;
@@ -237,7 +237,7 @@ fn enter(s: State, e: Entry) -> State
 
 // The state with what a pulse made of the receiver, and the entry of a character that ended.
 pub fn accept(s: State, r: Received) -> State
-    ensures { λ t. ⌜ t ≡ accepted s r ⌝ }
+    ensures { λ t. ⌜ t ≡ withReceived s r ⌝ }
 {
     let v = r.receiver;
     let e = r.entry;

@@ -46,8 +46,8 @@ stateCount = settingsCount + transmitCount + frameCount + receiveCount + receive
 -- the transmit count
 abbrev pub settingsNumbers : Registers → Baud → FifoControl → Inputs → ℕ → List ℕ
 settingsNumbers r b f i n =
-    r .ier ∷ r .mcr ∷ r .lcr ∷ r .scr ∷ b .divisor ∷ b .k ∷ f .enabled ∷ f .size ∷ f .dma ∷ f .trigger ∷ i .modem ∷ i .sin
-    ∷ n ∷ []
+    r .ier ∷ r .mcr ∷ r .lcr ∷ r .scr ∷ b .divisor ∷ b .k ∷ f .enabled ∷ f .size ∷ f .dma ∷ f .trigger ∷ i .modem
+    ∷ i .sin ∷ n ∷ []
 
 -- places 78..80, L, the byte and the format of the frame now sent; 81, the receive count
 abbrev pub frameNumbers : State → List ℕ
@@ -65,8 +65,8 @@ entriesNumbers (e ∷ es) = entryNumbers e ++ entriesNumbers es
 -- latch, OE, time-out latch, idle count, change bits, RTS hold
 abbrev pub receiverNumbers : Receiver → Latches → List ℕ
 receiverNumbers v l =
-    v .phase ∷ v .position ∷ v .format ∷ v .samples ∷ v .parity ∷ l .empty ∷ l .overrun ∷ l .timeout ∷ l .idle ∷ l .changes
-    ∷ l .hold ∷ []
+    v .phase ∷ v .position ∷ v .format ∷ v .samples ∷ v .parity ∷ l .empty ∷ l .overrun ∷ l .timeout ∷ l .idle
+    ∷ l .changes ∷ l .hold ∷ []
 
 -- all of them: with places 14..77, the transmit queue, and 82..337, the receive queue
 unfoldable pub numbersOf : State → List ℕ

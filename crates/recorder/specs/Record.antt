@@ -1,5 +1,5 @@
--- A record of the recorder, a word of 32 bits (document 02 a): the kind in bits 31..28; ticks: count in bits 0..15; read
--- and write: address in 8..10, byte in 0..7; SIN: bit 0; modem pins: bits 0..3; reset; all other bits zero.
+-- A record of the recorder, a word of 32 bits (document 02 a): the kind in bits 31..28; ticks: count in bits 0..15;
+-- read and write: address in 8..10, byte in 0..7; SIN: bit 0; modem pins: bits 0..3; reset; all other bits zero.
 use Prim.Native.Nat.{ℕ, _/_, _%_, _^_}
 use mathlib.Core.Bool.{Bool, cond}
 use lib.Dec.{ltb, eqb}
@@ -12,7 +12,8 @@ kind w = w / 2 ^ 28
 abbrev pub byKind : {A : Type 0} → ℕ → A → A → A → A → A → A → A → A
 byKind k ticks read write sin modem reset other =
     cond (eqb k 0) ticks
-    (cond (eqb k 1) read (cond (eqb k 2) write (cond (eqb k 3) sin (cond (eqb k 4) modem (cond (eqb k 5) reset other)))))
+    (cond (eqb k 1) read
+    (cond (eqb k 2) write (cond (eqb k 3) sin (cond (eqb k 4) modem (cond (eqb k 5) reset other)))))
 
 -- the count of ticks
 abbrev pub count : ℕ → ℕ

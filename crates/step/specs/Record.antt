@@ -1,5 +1,5 @@
--- A record's step (document 02 a): the call of document 01 that the record stands for, what it shows, and the state after
--- it.
+-- A record's step (document 02 a): the call of document 01 that the record stands for, what it shows, and the state
+-- after it.
 use Prim.Native.Nat.{ℕ, _≤_}
 use mathlib.Core.Path.{_≡_}
 use mathlib.Core.Bool.{true, false}

@@ -1,7 +1,8 @@
 // The UART: the calls that its users make. Each takes any state and any argument, looks at the
 // state first, and refuses by number what document 01's table refuses, handing the state back.
 //
-// A contract equates the whole answer with a definition of the device's `specs/Calls.antt`.
+// A contract equates the whole answer with a definition in the device's specs: of `Calls.antt`, for
+// forecast, level and run of `Forecast.antt`, for the fresh state of `State.antt`.
 use device::Answer;
 use device::Forecasted;
 use device::Leveled;

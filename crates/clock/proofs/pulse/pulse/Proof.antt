@@ -2,7 +2,7 @@
 use Rattle.device.specs.declared.State.{State}
 use Rattle.device.specs.Tick.{pulsed}
 use Rattle.device.specs.Receiver.{received, enters}
-use Rattle.clock.proofs.Needed.{transmitted-hearing, transmitted-idle, accepted-idle}
+use Rattle.clock.proofs.Needed.{transmitted-hearing, transmitted-idle, received-idle}
 use mathlib.Core.Path.{_≡_, ap, _∙_}
 use borrow.Author.Needs.{needs}
 use Rattle.clock.proofs.pulse.pulse.Statement.{statement}
@@ -24,7 +24,7 @@ idle-requires : tie.Need-idle-requires
 idle-requires c κs =
     let s = c .before .before .before .before .args .s in
     let same : c .accept .result .latches .idle ≡ s .latches .idle =
-    ap (λ (t : State). t .latches .idle) (c .accept .ensures) ∙ accepted-idle (c .before .before .before .transmit .result) (c .before .before .hear .result) ∙ ap (λ (t : State). t .latches .idle) (c .before .before .before .transmit .ensures) ∙ transmitted-idle s in
+    ap (λ (t : State). t .latches .idle) (c .accept .ensures) ∙ received-idle (c .before .before .before .transmit .result) (c .before .before .hear .result) ∙ ap (λ (t : State). t .latches .idle) (c .before .before .before .transmit .ensures) ∙ transmitted-idle s in
     rw same (c .before .before .before .before .pre .idle)
 
 settle-requires : tie.Need-settle-requires

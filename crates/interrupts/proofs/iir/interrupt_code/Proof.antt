@@ -1,11 +1,11 @@
 -- The five tests are the definition's, in its order.
-use Rattle.device.specs.Iir.{lineStatus, dataAvailable, timeOut, transmitEmpty, modemStatus, interruptCode}
+use Rattle.device.specs.Iir.{lineStatus, dataAvailable, timeOut, thrEmpty, modemStatus, interruptCode}
 use borrow.Author.Needs.{needs}
 use Rattle.interrupts.proofs.iir.interrupt_code.Statement.{statement}
 use Rattle.interrupts.proofs.iir.interrupt_code.Tie as tie
 
 returns : tie.Need-returns
-unfolding lineStatus dataAvailable timeOut transmitEmpty modemStatus interruptCode
+unfolding lineStatus dataAvailable timeOut thrEmpty modemStatus interruptCode
 returns c =
     let moved = c .before in
     let empty = moved .before .before .before in

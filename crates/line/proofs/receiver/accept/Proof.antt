@@ -1,5 +1,5 @@
 -- A character that ended is put into the queue.
-use Rattle.device.specs.Receiver.{accepted}
+use Rattle.device.specs.Receiver.{withReceived}
 use borrow.Author.Needs.{needs}
 use Rattle.line.proofs.receiver.accept.Statement.{statement}
 use Rattle.line.proofs.receiver.accept.Tie as tie
@@ -8,11 +8,11 @@ enter-requires : tie.Need-enter-requires
 enter-requires c κs = search needs
 
 returns : tie.Need-returns
-unfolding accepted
+unfolding withReceived
 returns c = rw (c .enter .ensures) (simp (c .before .if1 .taken))
 
 returns-2 : tie.Need-returns-2
-unfolding accepted
+unfolding withReceived
 returns-2 c = simp (c .if1 .left)
 
 pub accept-spec : {M : Type 1} → statement M

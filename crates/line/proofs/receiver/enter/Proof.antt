@@ -1,5 +1,5 @@
 -- The put and OE are the definition's; the rest stays.
-use Rattle.device.specs.Receiver.{entered}
+use Rattle.device.specs.Receiver.{withEntry}
 use borrow.Author.Needs.{needs}
 use Rattle.line.proofs.receiver.enter.Statement.{statement}
 use Rattle.line.proofs.receiver.enter.Tie as tie
@@ -17,7 +17,7 @@ put-requires : tie.Need-put-requires
 put-requires c κs = search needs
 
 returns : tie.Need-returns
-unfolding entered
+unfolding withEntry
 returns c = rw (c .put .ensures, c .before .capacity .ensures .0, c .before .before .overrun .ensures, c .before .before .before .is-full .ensures)
 
 pub enter-spec : {M : Type 1} → statement M

@@ -1,5 +1,5 @@
 -- One return for each phase and level.
-use Rattle.device.specs.Receiver.{receive}
+use Rattle.device.specs.Receiver.{receiverPulse}
 use borrow.Author.Tests.{eq-eqb, ne-eqb}
 use borrow.Author.Needs.{needs}
 use Rattle.line.proofs.receiver.receive.Statement.{statement}
@@ -12,7 +12,7 @@ in-character-requires : tie.Need-in-character-requires
 in-character-requires c κs = search needs
 
 returns : tie.Need-returns
-unfolding receive
+unfolding receiverPulse
 returns c = rw (c .in-character .ensures) (simp (eq-eqb _ _ (c .before .before .if1 .taken)))
 
 outside-requires : tie.Need-outside-requires
@@ -22,14 +22,14 @@ goes-on-requires : tie.Need-goes-on-requires
 goes-on-requires c κs = search needs
 
 returns-2 : tie.Need-returns-2
-unfolding receive
+unfolding receiverPulse
 returns-2 c = rw (c .goes-on .ensures, c .before .outside .ensures) (simp (ne-eqb _ _ (c .before .before .before .before .before .if1 .left), eq-eqb _ _ (c .before .before .before .if2 .taken), eq-eqb _ _ (c .before .before .if3 .taken)))
 
 goes-on-requires-2 : tie.Need-goes-on-requires-2
 goes-on-requires-2 c κs = search needs
 
 returns-3 : tie.Need-returns-3
-unfolding receive
+unfolding receiverPulse
 returns-3 c = rw (c .goes-on2 .ensures) (simp (ne-eqb _ _ (c .before .before .before .before .if1 .left), eq-eqb _ _ (c .before .before .if2 .taken), ne-eqb _ _ (c .before .if3 .left)))
 
 start-at-requires : tie.Need-start-at-requires
@@ -39,14 +39,14 @@ goes-on-requires-3 : tie.Need-goes-on-requires-3
 goes-on-requires-3 c κs = search needs
 
 returns-4 : tie.Need-returns-4
-unfolding receive
+unfolding receiverPulse
 returns-4 c = rw (c .goes-on3 .ensures, c .before .start-at .ensures) (simp (ne-eqb _ _ (c .before .before .before .before .before .if1 .left), ne-eqb _ _ (c .before .before .before .if2 .left), eq-eqb _ _ (c .before .before .if4 .taken)))
 
 goes-on-requires-4 : tie.Need-goes-on-requires-4
 goes-on-requires-4 c κs = search needs
 
 returns-5 : tie.Need-returns-5
-unfolding receive
+unfolding receiverPulse
 returns-5 c = rw (c .goes-on4 .ensures) (simp (ne-eqb _ _ (c .before .before .before .before .if1 .left), ne-eqb _ _ (c .before .before .if2 .left), ne-eqb _ _ (c .before .if4 .left)))
 
 pub receive-spec : {M : Type 1} → statement M

@@ -1,6 +1,6 @@
 -- Below the word length the sample is the next data bit, behind it the parity.
 use Rattle.line.proofs.Samples.{sample-small, sample-byte, samples-below}
-use Rattle.device.specs.Ranges.{samplesTaken}
+use Rattle.device.specs.Receiver.{samplesTaken}
 use Rattle.frame.specs.Format.{dataBits}
 use Rattle.device.specs.Receiver.{sampled}
 use Prim.Native.Nat.{_<_}

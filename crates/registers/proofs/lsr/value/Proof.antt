@@ -1,12 +1,12 @@
 -- The two halves have the definition's eight tests, in the order of the bits.
-use Rattle.device.specs.Lsr.{transmitterEmpty, lsr}
+use Rattle.device.specs.Lsr.{temt, lsr}
 use native.Mathlib.Omega.{arith}
 use borrow.Author.Needs.{needs}
 use Rattle.registers.proofs.lsr.value.Statement.{statement}
 use Rattle.registers.proofs.lsr.value.Tie as tie
 
 returns : tie.Need-returns
-unfolding transmitterEmpty lsr
+unfolding temt lsr
 returns c =
     let low = c .before .before .before in
     let error = low .before .before .before .before .before in
