@@ -4,17 +4,17 @@
 // reach a queue stands in the invariant's specs/Touch.antt. An address above 7 is taken for 7.
 use device::Numbers;
 use device::State;
+use fifos::fcr;
+use fifos::lsr;
+use fifos::rbr;
+use fifos::thr;
 use interrupts::iir;
 use registers::divisor;
-use registers::fcr;
 use registers::ier;
 use registers::lcr;
-use registers::lsr;
 use registers::mcr;
 use registers::msr;
-use registers::rbr;
 use registers::scr;
-use registers::thr;
 use sheet::bits;
 ghost use mathlib.Core.Path.{_≡_};
 ghost use mathlib.Core.Bool.{true, false};

@@ -9,12 +9,12 @@ use native.Mathlib.Omega.{arith}
 use borrow.Author.Tests.{eqb-true, not-false}
 use Rattle.recorder.specs.Record.{byte, isRead}
 use Rattle.device.specs.declared.State.{State}
-use Rattle.step.specs.Record.{stepOf}
+use Rattle.recorded.specs.Record.{stepOf}
 use Rattle.invariant.proofs.Settled.{Kept}
 use Rattle.capture.specs.declared.Outcome.{Outcome}
 use Rattle.capture.specs.File.{agreeing}
 use Rattle.capture.specs.Replay.{stepsOf, modelByte, differing, replayFrom, Agrees}
-use Rattle.step.proofs.Laws.{step-kept}
+use Rattle.recorded.proofs.Laws.{step-kept}
 use Rattle.capture.proofs.Ways.{each-way}
 
 pub not-refused : {number place : ℕ} → Outcome.Refused number place ≡ Outcome.Agreed → ⊥

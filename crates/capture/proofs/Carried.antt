@@ -12,7 +12,7 @@ use Rattle.flag.proofs.Laws.{cond-map}
 use Rattle.recorder.specs.File.{wordsOf, known}
 use Rattle.recorder.proofs.Laws.{no-words, left, length-words, length-left, words-append}
 use Rattle.device.specs.declared.State.{State}
-use Rattle.step.specs.Record.{stepOf}
+use Rattle.recorded.specs.Record.{stepOf}
 use Rattle.device.specs.State.{freshOf}
 use Rattle.device.specs.Ranges.{wellFormed}
 use Rattle.capture.specs.declared.Outcome.{Outcome}

@@ -12,9 +12,9 @@ use Rattle.flag.proofs.Laws.{and-left, and-right}
 use Rattle.recorder.specs.Record.{isRead, byte, good}
 use Rattle.device.specs.declared.State.{State}
 use Rattle.invariant.proofs.Settled.{Kept}
-use Rattle.step.specs.declared.Shown.{Shown}
-use Rattle.step.specs.Record.{stepOf}
-use Rattle.step.proofs.Laws.{step-kept}
+use Rattle.recorded.specs.declared.Shown.{Shown}
+use Rattle.recorded.specs.Record.{stepOf}
+use Rattle.recorded.proofs.Laws.{step-kept}
 use Rattle.capture.specs.Replay.{agreed, differs, refused, modelByte, differing, replayFrom, goodAt, stoppedAt}
 
 -- A good record stands at a place: the place lies within the records, and the record there is good.

@@ -5,7 +5,7 @@ use mathlib.Core.Bool.{Bool, true, false}
 use mathlib.Core.List.{List, [], _∷_}
 use Rattle.recorder.specs.Record.{good}
 use Rattle.device.specs.declared.State.{State}
-use Rattle.step.specs.Record.{stepOf}
+use Rattle.recorded.specs.Record.{stepOf}
 use Rattle.capture.specs.declared.Replayed.{Replayed}
 use Rattle.capture.specs.Replay.{differing, replayFrom}
 

@@ -9,7 +9,7 @@ use Rattle.recorder.specs.Record.{byte, good, isRead}
 use Rattle.recorder.specs.File.{known}
 use Rattle.device.specs.declared.State.{State}
 use Rattle.device.specs.Ranges.{wellFormed}
-use Rattle.step.specs.Record.{stepOf}
+use Rattle.recorded.specs.Record.{stepOf}
 use Rattle.capture.specs.declared.Outcome.{Outcome}
 use Rattle.capture.specs.declared.Replayed.{Replayed}
 use Rattle.capture.specs.declared.Values.{Values}

@@ -8,7 +8,6 @@ use ranges::well_formed;
 use recorder::file;
 use recorder::record;
 use sheet::answer;
-use step::recorded;
 ghost use mathlib.Core.Path.{_≡_};
 ghost use mathlib.Core.Bool.{true, not, _&&_};
 ghost use lib.Dec.{eqb};

@@ -17,7 +17,7 @@ use Rattle.device.specs.Receiver.{withEntry, withReceived}
 use Rattle.device.specs.Receiver.{samplesTaken}
 use Rattle.invariant.proofs.Good.{ReceiverFacts, good-of}
 use Rattle.invariant.proofs.Settled.{Kept}
-use Rattle.line.specs.Needs.{Sent, Placed, Hearing}
+use Rattle.receiver.specs.Needs.{Sent, Placed, Hearing}
 
 -- A well-formed state has it.
 

@@ -4,7 +4,7 @@ use Rattle.device.specs.declared.Frame.{Frame}
 use Rattle.device.specs.declared.Receiver.{Receiver}
 use Rattle.device.specs.declared.Latches.{Latches}
 use Rattle.device.specs.declared.State.{State}
-use Rattle.line.specs.Needs.{Sent, Placed, Hearing}
+use Rattle.receiver.specs.Needs.{Sent, Placed, Hearing}
 use Rattle.clock.specs.declared.Setting.{Setting}
 
 -- a quiet pulse

@@ -2,7 +2,6 @@
 use device::State;
 use device::autoflow;
 use line::idle;
-use line::receiver;
 use line::transmitter;
 ghost use mathlib.Core.Path.{_≡_};
 ghost use Rattle.device.specs.Autoflow.{settled};

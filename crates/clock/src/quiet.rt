@@ -9,13 +9,12 @@ use device::Receiver;
 use device::State;
 use device::modem;
 use line::idle;
-use line::receiver;
 use line::transmitter;
 ghost use mathlib.Core.Path.{_≡_};
 ghost use Prim.Native.Nat.{_≤_};
 ghost use mathlib.Core.Bool.{cond};
 ghost use Rattle.device.specs.Idle.{counted};
-ghost use Rattle.line.specs.Needs.{Placed};
+ghost use Rattle.receiver.specs.Needs.{Placed};
 ghost use Rattle.clock.specs.Needs.{Quieting};
 ghost use Rattle.clock.specs.Quiet.{settingOf, steady as «steady-of», stepped, busy as «busy-of», quietOf};
 

@@ -57,9 +57,9 @@ fn loaded(n: &[u32]) -> Session
     requires { ⌜ length (now n) ≡ stateCount ⌝ }
     ensures { λ r. ⌜ r ≡ loadedOf (now (n .entry)) ⌝ }
 {
-    if numbers::fits(n) {
+    if load::fits(n) {
         return Session {
-            state: numbers::state_of(n),
+            state: load::state_of(n),
             fits: true,
         };
     }

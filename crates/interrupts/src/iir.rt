@@ -1,7 +1,7 @@
 // IIR, interrupt identification register.
 use device::FifoControl;
 use device::State;
-use registers::rbr;
+use fifos::rbr;
 use sheet::bits;
 ghost use mathlib.Core.Path.{_≡_};
 ghost use mathlib.Core.Bool.{cond, false};

@@ -1,4 +1,4 @@
-// The line: the parts of a pulse, each by itself. `clock` puts them together.
+// The transmitter's and the idle count's parts of a pulse. `clock` puts them together with the
+// receiver's.
 pub mod idle;
-pub mod receiver;
 pub mod transmitter;

@@ -1,17 +1,15 @@
-// The registers but IIR: for each its byte, what a read changes of the state, and its write.
+// The registers that reach no FIFO: IER, LCR, MCR, MSR, SCR and the divisor latches, for each its byte,
+// what a read changes of the state, and its write.
 //
 // A module for each register, named as the sheet names it. The definitions that the contracts cite
-// are the device's. IIR is in the crate `interrupts`; the crate `bus` has the registers by address.
+// are the device's. RBR, THR, FCR and LSR are in the crate `fifos`, IIR in `interrupts`; the crate
+// `bus` has the registers by address.
 pub mod divisor;
-pub mod fcr;
 pub mod ier;
 pub mod lcr;
-pub mod lsr;
 pub mod mcr;
 pub mod msr;
-pub mod rbr;
 pub mod scr;
-pub mod thr;
 
 use device::Numbers;
 use device::State;

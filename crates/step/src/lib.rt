@@ -1,8 +1,6 @@
 // The steps: what reset, a register read or write, a level on an input pin and ticks do to a
 // well-formed state. The public calls (`uart`) look at the state and the arguments first; a record of
 // a capture (`recorded`) stands for a step. A step leaves in place what it does not touch.
-pub mod recorded;
-
 use device::Inputs;
 use device::Numbers;
 use device::Reading;
@@ -19,11 +17,6 @@ ghost use Rattle.device.specs.Autoflow.{settled};
 ghost use Rattle.device.specs.Msr.{withLevels};
 ghost use Rattle.device.specs.Calls.{readRegister, writeRegister, ticksOf};
 ghost use Rattle.invariant.specs.Touch.{reachesQueue, numbersOf};
-
-// What a step shows beside the state that it leaves: the byte read, 0 where nothing is read.
-pub struct Shown {
-    pub byte: u8,
-}
 
 // Reset.
 pub fn reset(s: State) -> State

@@ -4,10 +4,10 @@ use Rattle.recorder.specs.Record.{byte}
 use Rattle.device.specs.declared.Numbers.{Numbers}
 use Rattle.device.specs.declared.State.{State}
 use Rattle.device.specs.State.{withRegisters, withBaud, withTx, withLatches}
-use Rattle.step.specs.declared.Shown.{Shown}
-use Rattle.step.specs.declared.recorded.Queued.{Queued}
-use Rattle.step.specs.Record.{stepOf}
-use Rattle.step.proofs.Laws.{numbers-step, transmit-step}
+use Rattle.recorded.specs.declared.Shown.{Shown}
+use Rattle.recorded.specs.declared.Queued.{Queued}
+use Rattle.recorded.specs.Record.{stepOf}
+use Rattle.recorded.proofs.Laws.{numbers-step, transmit-step}
 use Rattle.capture.specs.Replay.{modelByte, differing, goodAt, stoppedAt}
 use Rattle.capture.proofs.Laws.{Replaying, good-within, good-there, is-differing, replay-turns, replay-stops}
 use mathlib.Core.Path.{_≡_, refl, sym, ap, subst, _∙_}
@@ -23,13 +23,13 @@ use Rattle.capture.proofs.replay_records.Tie as tie
 use Rattle.capture.proofs.differs.Reads as differs-reads
 use Rattle.capture.proofs.good_at.Reads as good-at-reads
 use Rattle.capture.proofs.stopped.Reads as stopped-reads
-use Rattle.step.proofs.recorded.ticks.Reads as ticks-reads
-use Rattle.step.proofs.recorded.other.Reads as other-reads
-use Rattle.step.proofs.recorded.after_read.Reads as after-read-reads
-use Rattle.step.proofs.recorded.numbers.Reads as numbers-reads
-use Rattle.step.proofs.recorded.shown.Reads as shown-reads
-use Rattle.step.proofs.recorded.transmit.Reads as transmit-reads
-use Rattle.step.proofs.recorded.way.Reads as way-reads
+use Rattle.recorded.proofs.ticks.Reads as ticks-reads
+use Rattle.recorded.proofs.other.Reads as other-reads
+use Rattle.recorded.proofs.after_read.Reads as after-read-reads
+use Rattle.recorded.proofs.numbers.Reads as numbers-reads
+use Rattle.recorded.proofs.shown.Reads as shown-reads
+use Rattle.recorded.proofs.transmit.Reads as transmit-reads
+use Rattle.recorded.proofs.way.Reads as way-reads
 
 abbrev Inv-loop : tie.InvT-loop
 Inv-loop records t₀ model₀ i₀ t model i = Replaying t₀ records t i
