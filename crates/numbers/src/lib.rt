@@ -18,13 +18,13 @@ ghost use Rattle.text.specs.Text.{Appended};
 ghost use Rattle.numbers.specs.Numbers.{stateCount, settingsNumbers, frameNumbers, entryNumbers, entriesNumbers, receiverNumbers, numbersOf};
 
 // How many numbers stand before each group that follows the settings.
-const TRANSMIT: usize = 13;
+pub const TRANSMIT: usize = 13;
 
-const FRAME: usize = TRANSMIT + limits::PLACES;
+pub const FRAME: usize = TRANSMIT + limits::PLACES;
 
-const RECEIVE: usize = FRAME + 4;
+pub const RECEIVE: usize = FRAME + 4;
 
-const RECEIVER: usize = RECEIVE + 4 * limits::PLACES;
+pub const RECEIVER: usize = RECEIVE + 4 * limits::PLACES;
 
 // How many numbers a state has.
 pub const COUNT: usize = RECEIVER + 11;
