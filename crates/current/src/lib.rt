@@ -111,7 +111,7 @@ pub fn ran(s: Session, n: u32, out: &mut [u8], at: usize) -> Said
     ensures { λ r. ⌜ Appended (now (out .entry)) at (lineOf (runNumbers (runOf (s .state) n))) (now (out .exit)) (r .end) ⌝ }
 {
     let t = s.state;
-    let a = uart::run(t, n);
+    let a = foretell::run(t, n);
     let end = reply::put_pair(a.number, a.used, out, at);
     let state = a.state;
     Said {

@@ -65,7 +65,7 @@ pub extern "C" fn uart_run(s: State, n: u32) -> Ran
     ensures outcome { λ r. ⌜ r ≡ runOf s n ⌝ }
     ensures in_time { λ r. ⌜ (r .number ≡ 0 → StopsInTime s n (r .used)) ⌝ }
 {
-    uart::run(s, n)
+    foretell::run(s, n)
 }
 
 // A register read at an address.
@@ -115,7 +115,7 @@ pub extern "C" fn uart_forecast(s: State) -> Forecasted
     ensures every_tick { λ r. ⌜ (r .number ≡ 0 → (t : ℕ) → Foretold s (r .ticks) t) ⌝ }
     ensures at_most { λ r. ⌜ r .ticks ≤ 817876800 ⌝ }
 {
-    uart::forecast(s)
+    foretell::forecast(s)
 }
 
 // The level of the transmitter's line after t ticks.
@@ -124,7 +124,7 @@ pub extern "C" fn uart_level(s: State, t: u32) -> Leveled
     ensures outcome { λ r. ⌜ r ≡ levelOf s t ⌝ }
     ensures ticked { λ r. ⌜ (r .number ≡ 0 → r .level ≡ line (ticksOf t s .frame)) ⌝ }
 {
-    uart::level(s, t)
+    foretell::level(s, t)
 }
 
 // A replay of records of a version: number 0 and both bytes the same where it agreed.

@@ -86,7 +86,7 @@ pub fn put_forecast(s: State, out: &mut [u8], at: usize) -> usize
     requires { ⌜ at + 22 ≤ length (now out) ⌝ }
     ensures { λ r. ⌜ Appended (now (out .entry)) at (lineOf (forecastNumbers (forecastOf s))) (now (out .exit)) r ⌝ }
 {
-    let a = uart::forecast(s);
+    let a = foretell::forecast(s);
     put_pair(a.number, a.ticks, out, at)
 }
 
@@ -94,6 +94,6 @@ pub fn put_level(s: State, t: u32, out: &mut [u8], at: usize) -> usize
     requires { ⌜ at + 22 ≤ length (now out) ⌝ }
     ensures { λ r. ⌜ Appended (now (out .entry)) at (lineOf (levelNumbers (levelOf s t))) (now (out .exit)) r ⌝ }
 {
-    let a = uart::level(s, t);
+    let a = foretell::level(s, t);
     put_pair(a.number, wide(a.level), out, at)
 }

@@ -2,7 +2,6 @@
 use Prim.Native.Nat.{ℕ}
 use mathlib.Core.Path.{_≡_, refl, sym, ap, _∙_}
 use mathlib.Core.Bool.{true, false}
-use Rattle.recorder.specs.Record.{count, modem}
 use Rattle.device.specs.declared.Inputs.{Inputs}
 use Rattle.device.specs.declared.State.{State}
 use Rattle.device.specs.State.{withInputs, withTx, withLatches, withEmpty}

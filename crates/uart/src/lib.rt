@@ -1,14 +1,12 @@
-// The UART: the calls that its users make. Each takes any state and any argument, looks at the
-// state first, and refuses by number what document 01's table refuses, handing the state back.
+// The UART: the calls that its users make; those that foretell when the line falls quiet are in the
+// crate `foretell`. Each takes any state and any argument, looks at the state first, and refuses by
+// number what document 01's table refuses, handing the state back.
 //
 // A contract equates the whole answer with a definition in the device's specs: of `Calls.antt`, for
-// forecast, level and run of `Forecast.antt`, for the fresh state of `State.antt`.
+// the fresh state of `State.antt`.
 use device::Answer;
-use device::Forecasted;
-use device::Leveled;
 use device::Looked;
 use device::Outputs;
-use device::Ran;
 use device::State;
 use interrupts::pins::outputs;
 use ranges::well_formed;
@@ -17,12 +15,9 @@ use sheet::limits;
 ghost use mathlib.Core.Path.{_≡_};
 ghost use Prim.Native.Nat.{ℕ, _≤_};
 ghost use lib.Dec.{leb};
-ghost use Rattle.frame.specs.Format.{frameLength};
 ghost use Rattle.device.specs.State.{freshOf};
 ghost use Rattle.device.specs.Pins.{outputs as «outputs-of», noOutputs};
 ghost use Rattle.device.specs.Calls.{refused as «refused-of», resetOf, readOf, writeOf, sinOf, modemOf, tickOf, ticksOf, ticksAnswer, pinsOf};
-ghost use Rattle.device.specs.Transmitter.{line};
-ghost use Rattle.device.specs.Forecast.{forecastNumber, forecastOf, levelOf, runOf, Foretold, StopsInTime};
 
 // Every output 0, as a refusal answers.
 fn no_outputs() -> Outputs
@@ -172,68 +167,5 @@ pub fn pins(s: State) -> Looked
     Looked {
         number: answer::DONE,
         outputs: outputs(s),
-    }
-}
-
-// The number that the forecast answers.
-fn forecast_number(s: State) -> u8
-    ensures { λ r. ⌜ r ≡ forecastNumber s ⌝ }
-{
-    if !well_formed(s) {
-        return answer::MALFORMED;
-    }
-    forecast::number(s)
-}
-
-// The forecast: the ticks until queue and shift register are both empty. Whatever number of ticks
-// the state is given, none is refused, the two are empty exactly from the forecast on, and the
-// transmitter's line has the level that the frames spell.
-pub fn forecast(s: State) -> Forecasted
-    ensures outcome { λ r. ⌜ r ≡ forecastOf s ⌝ }
-    ensures every_tick { λ r. ⌜ (r .number ≡ 0 → (t : ℕ) → Foretold s (r .ticks) t) ⌝ }
-    ensures at_most { λ r. ⌜ r .ticks ≤ 817876800 ⌝ }
-{
-    let number = forecast_number(s);
-    if number != answer::DONE {
-        return Forecasted { number, ticks: 0 };
-    }
-    Forecasted {
-        number: answer::DONE,
-        ticks: forecast::ticks_to_come(s),
-    }
-}
-
-// The level of the transmitter's line after t ticks.
-pub fn level(s: State, t: u32) -> Leveled
-    ensures outcome { λ r. ⌜ r ≡ levelOf s t ⌝ }
-    ensures ticked { λ r. ⌜ (r .number ≡ 0 → r .level ≡ line (ticksOf t s .frame)) ⌝ }
-{
-    let number = forecast_number(s);
-    if number != answer::DONE {
-        return Leveled { number, level: 0 };
-    }
-    Leveled {
-        number: answer::DONE,
-        level: forecast::level_after(s, t),
-    }
-}
-
-// At most n ticks, until queue and shift register are both empty.
-pub fn run(s: State, n: u32) -> Ran
-    ensures outcome { λ r. ⌜ r ≡ runOf s n ⌝ }
-    ensures in_time { λ r. ⌜ (r .number ≡ 0 → StopsInTime s n (r .used)) ⌝ }
-{
-    if !well_formed(s) {
-        return Ran {
-            number: answer::MALFORMED,
-            used: 0,
-            state: s,
-        };
-    }
-    let used = forecast::used(s, n);
-    Ran {
-        number: answer::DONE,
-        used,
-        state: clock::advance(s, used),
     }
 }

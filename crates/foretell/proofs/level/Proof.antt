@@ -3,8 +3,8 @@ use Rattle.device.specs.Forecast.{forecastNumber, levelOf}
 use mathlib.Core.Path.{_≡_, sym, _∙_}
 use borrow.Author.Tests.{eq-eqb, ne-eqb}
 use borrow.Author.Needs.{needs}
-use Rattle.uart.proofs.level.Statement.{statement}
-use Rattle.uart.proofs.level.Tie as tie
+use Rattle.foretell.proofs.level.Statement.{statement}
+use Rattle.foretell.proofs.level.Tie as tie
 
 forecast-number-requires : tie.Need-forecast-number-requires
 forecast-number-requires c κs = search needs

@@ -8,8 +8,8 @@ use mathlib.Core.Path.{_≡_, sym, _∙_}
 use borrow.Author.Tests.{eq-eqb, ne-eqb}
 use borrow.Author.Needs.{needs}
 use native.Mathlib.Omega.{arith}
-use Rattle.uart.proofs.forecast.Statement.{statement}
-use Rattle.uart.proofs.forecast.Tie as tie
+use Rattle.foretell.proofs.forecast.Statement.{statement}
+use Rattle.foretell.proofs.forecast.Tie as tie
 
 kept : (c : tie.Start) → forecastNumber (c .args .s) ≡ 0 → Kept (c .args .s)
 kept c e = record { well = forecast-well (c .args .s) e; places = record { bytes-long = search needs; entries-long = search (length-mapped, needs) } }

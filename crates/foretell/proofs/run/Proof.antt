@@ -9,8 +9,8 @@ use mathlib.Core.Bool.{true}
 use native.Mathlib.Omega.{arith}
 use borrow.Author.Tests.{not-true, not-false}
 use borrow.Author.Needs.{needs}
-use Rattle.uart.proofs.run.Statement.{statement}
-use Rattle.uart.proofs.run.Tie as tie
+use Rattle.foretell.proofs.run.Statement.{statement}
+use Rattle.foretell.proofs.run.Tie as tie
 
 kept : (c : tie.Start) → wellFormed (c .args .s) ≡ true → Kept (c .args .s)
 kept c e = record { well = e; places = record { bytes-long = search needs; entries-long = search (length-mapped, needs) } }

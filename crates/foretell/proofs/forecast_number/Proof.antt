@@ -3,8 +3,8 @@ use Rattle.device.specs.Forecast.{forecastNumber}
 use mathlib.Core.Path.{sym, _∙_}
 use borrow.Author.Tests.{not-true, not-false}
 use borrow.Author.Needs.{needs}
-use Rattle.uart.proofs.forecast_number.Statement.{statement}
-use Rattle.uart.proofs.forecast_number.Tie as tie
+use Rattle.foretell.proofs.forecast_number.Statement.{statement}
+use Rattle.foretell.proofs.forecast_number.Tie as tie
 
 well-formed-requires : tie.Need-well-formed-requires
 well-formed-requires c κs = search needs

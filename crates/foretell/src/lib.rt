@@ -1,0 +1,79 @@
+// The calls that foretell: when the transmitter will be empty, which level its line will have, and
+// ticks until it is empty. Each takes any state and any argument, looks at the state first, and
+// refuses by number what document 01's table refuses.
+//
+// A contract equates the whole answer with a definition of the device's `specs/Forecast.antt`.
+use device::Forecasted;
+use device::Leveled;
+use device::Ran;
+use device::State;
+use ranges::well_formed;
+use sheet::answer;
+ghost use mathlib.Core.Path.{_≡_};
+ghost use Prim.Native.Nat.{ℕ, _≤_};
+ghost use Rattle.device.specs.Calls.{ticksOf};
+ghost use Rattle.device.specs.Transmitter.{line};
+ghost use Rattle.device.specs.Forecast.{forecastNumber, forecastOf, levelOf, runOf, Foretold, StopsInTime};
+
+// The number that the forecast answers.
+fn forecast_number(s: State) -> u8
+    ensures { λ r. ⌜ r ≡ forecastNumber s ⌝ }
+{
+    if !well_formed(s) {
+        return answer::MALFORMED;
+    }
+    forecast::number(s)
+}
+
+// The forecast: the ticks until queue and shift register are both empty. Whatever number of ticks
+// the state is given, none is refused, the two are empty exactly from the forecast on, and the
+// transmitter's line has the level that the frames spell.
+pub fn forecast(s: State) -> Forecasted
+    ensures outcome { λ r. ⌜ r ≡ forecastOf s ⌝ }
+    ensures every_tick { λ r. ⌜ (r .number ≡ 0 → (t : ℕ) → Foretold s (r .ticks) t) ⌝ }
+    ensures at_most { λ r. ⌜ r .ticks ≤ 817876800 ⌝ }
+{
+    let number = forecast_number(s);
+    if number != answer::DONE {
+        return Forecasted { number, ticks: 0 };
+    }
+    Forecasted {
+        number: answer::DONE,
+        ticks: forecast::ticks_to_come(s),
+    }
+}
+
+// The level of the transmitter's line after t ticks.
+pub fn level(s: State, t: u32) -> Leveled
+    ensures outcome { λ r. ⌜ r ≡ levelOf s t ⌝ }
+    ensures ticked { λ r. ⌜ (r .number ≡ 0 → r .level ≡ line (ticksOf t s .frame)) ⌝ }
+{
+    let number = forecast_number(s);
+    if number != answer::DONE {
+        return Leveled { number, level: 0 };
+    }
+    Leveled {
+        number: answer::DONE,
+        level: forecast::level_after(s, t),
+    }
+}
+
+// At most n ticks, until queue and shift register are both empty.
+pub fn run(s: State, n: u32) -> Ran
+    ensures outcome { λ r. ⌜ r ≡ runOf s n ⌝ }
+    ensures in_time { λ r. ⌜ (r .number ≡ 0 → StopsInTime s n (r .used)) ⌝ }
+{
+    if !well_formed(s) {
+        return Ran {
+            number: answer::MALFORMED,
+            used: 0,
+            state: s,
+        };
+    }
+    let used = forecast::used(s, n);
+    Ran {
+        number: answer::DONE,
+        used,
+        state: clock::advance(s, used),
+    }
+}
