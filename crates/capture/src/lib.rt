@@ -132,7 +132,7 @@ fn replay_records(s: State, records: &[u32]) -> Replayed
             break i;
         }
         let w = records[i];
-        let shown = recorded::shown(t, w);
+        let shown = recorded::shows(t, w);
         model = shown.byte;
         if differs(w, model) {
             break i;

@@ -40,7 +40,7 @@ pub struct Queued {
 }
 
 // What a record's step shows.
-pub fn shown(s: State, w: u32) -> Shown
+pub fn shows(s: State, w: u32) -> Shown
     requires { ⌜ wellFormed s ≡ true ⌝ }
     ensures { λ r. ⌜ r ≡ stepOf s w .shown ⌝ }
 {

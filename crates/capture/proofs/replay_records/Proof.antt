@@ -27,7 +27,7 @@ use Rattle.recorded.proofs.ticks.Reads as ticks-reads
 use Rattle.recorded.proofs.other.Reads as other-reads
 use Rattle.recorded.proofs.after_read.Reads as after-read-reads
 use Rattle.recorded.proofs.numbers.Reads as numbers-reads
-use Rattle.recorded.proofs.shown.Reads as shown-reads
+use Rattle.recorded.proofs.shows.Reads as shows-reads
 use Rattle.recorded.proofs.transmit.Reads as transmit-reads
 use Rattle.recorded.proofs.way.Reads as way-reads
 
@@ -49,8 +49,8 @@ mul-w c = search needs
 shared-slice-read-w : tie.Need-shared-slice-read-w Inv-loop μ-loop
 shared-slice-read-w c = good-within _ _ (sym (c .before .before .good-at .ensures) ∙ not-false _ (c .before .if1 .left))
 
-shown-requires : tie.Need-shown-requires Inv-loop μ-loop
-shown-requires c κs = c .before .before .before .loop .inv .kept .well
+shows-requires : tie.Need-shows-requires Inv-loop μ-loop
+shows-requires c κs = c .before .before .before .loop .inv .kept .well
 
 differs-requires : tie.Need-differs-requires Inv-loop μ-loop
 differs-requires c κs = search needs
@@ -99,7 +99,7 @@ loop-again c =
     let w = getD records i 0 in
     let well = c .before .before .before .before .before .before .before .before .loop .inv .kept .well in
     let way = c .before .way .ensures in
-    let same : differing t w ≡ false = is-differing t w _ (c .before .before .before .before .shown .ensures) (c .before .before .before .differs .ensures) ∙ c .before .before .if2 .left in
+    let same : differing t w ≡ false = is-differing t w _ (c .before .before .before .before .shows .ensures) (c .before .before .before .differs .ensures) ∙ c .before .before .if2 .left in
     let next : c .match .t ≡ stepOf t w .state =
     ⊎-elim (λ x. x .1 ∙ sym (way .nothing (x .0 .keys1)))
     (⊎-elim
@@ -138,7 +138,7 @@ replay-records-spec =
     good-at-requires
     mul-w
     shared-slice-read-w
-    shown-requires
+    shows-requires
     differs-requires
     way-requires
     numbers-requires

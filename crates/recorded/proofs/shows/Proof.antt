@@ -4,8 +4,8 @@ use Rattle.recorded.proofs.Laws.{read-shows, unread-shows}
 use mathlib.Core.Path.{sym, _∙_}
 use Prim.Native.Nat.{_-_}
 use borrow.Author.Needs.{needs}
-use Rattle.recorded.proofs.shown.Statement.{statement}
-use Rattle.recorded.proofs.shown.Tie as tie
+use Rattle.recorded.proofs.shows.Statement.{statement}
+use Rattle.recorded.proofs.shows.Tie as tie
 use Rattle.bus.proofs.value.Reads as value-reads
 use Rattle.recorder.proofs.record.address.Reads as address-reads
 use Rattle.recorder.proofs.record.kind.Reads as kind-reads
@@ -25,5 +25,5 @@ returns c = rw (c .value .ensures, c .before .address .ensures) (sym (read-shows
 returns-2 : tie.Need-returns-2
 returns-2 c = sym (unread-shows _ _ (c .before .before .pre) (λ e. c .if1 .left (c .before .kind .ensures ∙ e)))
 
-pub shown-spec : {M : Type 1} → statement M
-shown-spec = tie.close (tie.spec kind-requires address-requires value-requires returns returns-2)
+pub shows-spec : {M : Type 1} → statement M
+shows-spec = tie.close (tie.spec kind-requires address-requires value-requires returns returns-2)
