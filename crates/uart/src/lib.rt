@@ -15,6 +15,7 @@ use sheet::limits;
 ghost use mathlib.Core.Path.{_≡_};
 ghost use Prim.Native.Nat.{ℕ, _≤_};
 ghost use lib.Dec.{leb};
+ghost use Rattle.frame.specs.Format.{frameLength};
 ghost use Rattle.device.specs.State.{freshOf};
 ghost use Rattle.device.specs.Pins.{outputs as «outputs-of», noOutputs};
 ghost use Rattle.device.specs.Calls.{refused as «refused-of», resetOf, readOf, writeOf, sinOf, modemOf, tickOf, ticksOf, ticksAnswer, pinsOf};
