@@ -8,6 +8,7 @@ import random
 import sys
 
 import ask
+from prompt import trouble
 from states import PLACES
 
 TICK = b"0 0 1 0 0 0 0 0\n"
@@ -65,13 +66,15 @@ TEXT = (b"tick", b"read 5", b"", LARGEST, b"fresh", b"state", b"level 3", b"z" *
         b"replay 1" + READ_LSR * MOST_WORDS)
 
 
-def same_in_pieces(program):
-    """A text that comes in pieces of odd lengths is answered as the whole text is."""
+def trouble_in_pieces(program):
+    """What is wrong with the answers to a text that comes in pieces of odd lengths, or None."""
     pick = random.Random(3)
     text = b"\n".join(pick.choice(TEXT) for _ in range(TEXT_LINES))
-    whole = ask.answer(program, text)
+    whole, _ = ask.answer(program, text)
+    if whole.count(b"\n") != TEXT_LINES:
+        return "%d answers to %d lines" % (whole.count(b"\n"), TEXT_LINES)
     parts = ask.pieces(text, lambda _: pick.choice((1, 7, 100, 4000, 65535)))
-    return whole[0].count(b"\n") == TEXT_LINES and ask.answer_as_read(program, parts) == whole
+    return trouble(program, parts, whole)
 
 
 def main():
@@ -85,8 +88,9 @@ def main():
             print("%r answered %r with status %d, should be %r"
                   % (text[:60], got[0][:60], got[1], want[:60]))
             wrong += 1
-    if not same_in_pieces(program):
-        print("answers depend on how the text comes")
+    found = trouble_in_pieces(program)
+    if found:
+        print("a text in pieces: %s" % found)
         wrong += 1
     print("lines: %d cases, %d wrong" % (len(CASES) + 1, wrong))
     sys.exit(1 if wrong else 0)

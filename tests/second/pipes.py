@@ -17,6 +17,7 @@ CUTS = [(size, size) for size in (1, 3, 5, 7, 13, 4093, BLOCK - 1, BLOCK + 1, 65
 CUTS += [(first, BLOCK) for first in range(1, 12)]
 # A long capture takes too long in small pieces.
 MOST_PIECES = 700
+MOST_SHOWN = 3
 
 
 def ways(data):
@@ -38,9 +39,10 @@ def check(program, second, name):
     for cut in cuts:
         got = ask.answer_in_pieces(program, cut)
         if got != want:
-            sizes = ", ".join(str(len(piece)) for piece in cut[:3])
-            print("%s in pieces of %s ..: %r, should be %r" % (name, sizes, got, want))
             wrong += 1
+            if wrong <= MOST_SHOWN:
+                sizes = ", ".join(str(len(piece)) for piece in cut[:3])
+                print("%s in pieces of %s ..: %r, should be %r" % (name, sizes, got, want))
     return len(cuts), wrong
 
 

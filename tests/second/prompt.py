@@ -16,7 +16,7 @@ SIZES = (1, 3, 5, 7, 11, 101, 4093)
 
 
 def trouble(program, parts, answers):
-    """What is wrong with the answers to a script that comes in these parts, or None."""
+    """What is wrong with the answers to lines that come in these parts, or None."""
     try:
         written, status = ask.answer_as_read(program, parts)
     except (EOFError, OSError) as silence:
