@@ -13,6 +13,7 @@ import os
 import subprocess
 import sys
 
+import ask
 import states as st
 from recorder import Recorder, utr
 from steps import (EIGHT_BITS, EVEN_PARITY, FIVE_BITS, FCR, IER, IIR, LCR, LSR, MCR, MSR, RBR, SCR,
@@ -518,10 +519,10 @@ def fails_with_2(program):
 def check(calls, program):
     count = wrong = 0
     for name, data, answer in stored(calls):
-        done = subprocess.run([program], input=data, capture_output=True, check=False)
+        got = ask.answer(program, data)
         count += 1
-        if (done.stdout.decode(), done.stderr, done.returncode) != (answer + "\n", b"", 0):
-            print("%s answered %r, should be %r" % (name, done.stdout, answer))
+        if got != (answer.encode() + b"\n", 0):
+            print("%s answered %r, should be %r" % (name, got, answer))
             wrong += 1
     if not fails_with_2(program):
         print("reading or writing fails without status 2 and a message")

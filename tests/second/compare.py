@@ -8,19 +8,16 @@ Scripts and captures are drawn from the seed (draws.py). CALLS_B, the second pro
 reads of the captures. At the first difference of a script it prints the calls that lead there, from
 the last `fresh` or `load` on, and both answers. A capture goes to both programs from a file and
 through a pipe in odd pieces; one that is answered differently is saved and named. Ends with 1 at a
-difference; else it prints how much was compared and ends with 0.
+difference, or where less than a third of the captures is answered `differs`; else it prints how much
+was compared and ends with 0.
 """
 
 import argparse
-import fcntl
 import os
-import struct
-import subprocess
 import sys
 import tempfile
-import termios
-import time
 
+import ask
 import draws
 from recorder import Recorder
 from states import picker
@@ -30,11 +27,6 @@ CHUNK = 100000
 
 
 # ---- Scripts ----
-
-def answers_of(program, text):
-    done = subprocess.run([program], input=text, stdout=subprocess.PIPE, check=False)
-    return done.stdout, done.returncode
-
 
 def first_difference(a, b):
     for i, (left, right) in enumerate(zip(a, b)):
@@ -72,13 +64,12 @@ def compare_scripts(program_a, program_b, pick, calls):
     recorder = Recorder(program_b)
     sizes = list(FIRST_CHUNKS)
     compared = 0
-    started = time.time()
     while compared < calls:
         size = sizes.pop(0) if sizes else CHUNK
         lines = draws.draw_script(pick, min(size, calls - compared), recorder)
         text = ("\n".join(lines) + "\n").encode("latin-1")
-        out_a, code_a = answers_of(program_a, text)
-        out_b, code_b = answers_of(program_b, text)
+        out_a, code_a = ask.answer(program_a, text)
+        out_b, code_b = ask.answer(program_b, text)
         if out_a != out_b:
             show_difference(lines, out_a, out_b, compared)
             return False
@@ -87,60 +78,32 @@ def compare_scripts(program_a, program_b, pick, calls):
                   % (compared, code_a, code_b, out_a.count(b"\n"), len(lines)))
             return False
         compared += len(lines)
-    seconds = time.time() - started
     recorder.close()
-    print("%d calls compared, no difference (%d calls a second)"
-          % (compared, compared / max(seconds, 0.001)))
+    print("%d calls compared, no difference" % compared)
     return True
 
 
 # ---- Captures ----
 
 SMALL_PIECES = (1, 2, 3, 5, 7)
-LARGE_PIECES = (100, 4093, 8192, 32768, 65537)
+LARGE_PIECES = (100, 4093, 8192, 32768, 65535)
 
 
-def wait_until_read(child):
-    """The program has taken all that was written, so its reads are no longer than the pieces."""
-    while child.poll() is None:
-        waiting = fcntl.ioctl(child.stdin, termios.FIONREAD, struct.pack("i", 0))
-        if struct.unpack("i", waiting)[0] == 0:
-            break
-        time.sleep(0.00002)
+def odd_pieces(data, pick):
+    """Small ones at the start and now and then; a long capture would take too long in them."""
+    def size_at(at):
+        sizes = SMALL_PIECES if pick(2 if at < 300 else 50) == 0 else LARGE_PIECES
+        return sizes[pick(len(sizes))]
+    return ask.pieces(data, size_at)
 
 
-def feed(child, data, pick):
-    """Writes the capture in odd pieces. The program may stop reading before its end."""
-    at = 0
-    try:
-        while at < len(data):
-            # Small ones at the start and now and then; a long capture would take too long in them.
-            pieces = SMALL_PIECES if pick(2 if at < 300 else 50) == 0 else LARGE_PIECES
-            at += child.stdin.write(data[at:at + pieces[pick(len(pieces))]])
-            wait_until_read(child)
-    except BrokenPipeError:
-        pass
-    child.stdin.close()
-
-
-def answer_in_pieces(program, data, pick):
-    child = subprocess.Popen([program], stdin=subprocess.PIPE, stdout=subprocess.PIPE, bufsize=0)
-    feed(child, data, pick)
-    answer = child.stdout.read()
-    child.stdout.close()
-    return answer, child.wait()
-
-
-def answer_from_file(program, name):
-    with open(name, "rb") as capture:
-        done = subprocess.run([program], stdin=capture, stdout=subprocess.PIPE, check=False)
-    return done.stdout, done.returncode
-
-
-def all_answers(programs, name, data, pick):
-    """The answers of both programs, from a file and in pieces; each with its status."""
-    return [answer for program in programs
-            for answer in (answer_from_file(program, name), answer_in_pieces(program, data, pick))]
+def all_answers(programs, name, data, seed):
+    """The answers of both programs, from a file and in the same pieces; each with its status."""
+    answers = []
+    for program in programs:
+        answers.append(ask.answer_from_file(program, name))
+        answers.append(ask.answer_in_pieces(program, odd_pieces(data, picker(seed))))
+    return answers
 
 
 def save_capture(name, data, answers):
@@ -157,10 +120,11 @@ def compare_captures(program_b, replays, pick, given):
     with tempfile.TemporaryDirectory() as folder:
         name = os.path.join(folder, "capture")
         for number in range(given.captures):
-            data = draws.draw_capture(pick, recorder)
+            draw = draws.draw_capture if number % 2 else draws.draw_difference
+            data = draw(pick, recorder)
             with open(name, "wb") as out:
                 out.write(data)
-            answers = all_answers(replays, name, data, pick)
+            answers = all_answers(replays, name, data, pick(1 << 30))
             if len(set(answers)) != 1 or answers[0][1]:
                 print("difference at capture %d" % (number + 1))
                 saved = "capture-%d-%d.utr" % (given.seed, number + 1)
@@ -171,6 +135,9 @@ def compare_captures(program_b, replays, pick, given):
     recorder.close()
     print("%d captures compared, no difference (%s)"
           % (given.captures, ", ".join("%d %s" % (count[o], o) for o in sorted(count))))
+    if 3 * count.get("differs", 0) < given.captures:
+        print("less than a third of the captures differs: the draw is too weak")
+        return False
     return True
 
 

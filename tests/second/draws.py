@@ -478,6 +478,21 @@ def damage_header(pick, data):
     return bytes(damaged)
 
 
+def draw_difference(pick, recorder):
+    """A file in which a read's byte is not the model's; behind it anything may follow."""
+    reads = []
+    while not reads:
+        recorder.start()
+        words = record_steps(pick, recorder, capture_size(pick))
+        reads = [i for i, word in enumerate(words) if word >> 28 == utr.READ]
+    place = reads[pick(len(reads))]
+    words[place] ^= 1 << pick(8)
+    rest = words[place + 1:]
+    if rest and pick(4) == 0:
+        damage_record(pick, rest)
+    return utr.capture(words[:place + 1] + rest) + b"\0" * (pick(4) if pick(4) == 0 else 0)
+
+
 def draw_capture(pick, recorder):
     """A file; about half of them agree."""
     recorder.start()

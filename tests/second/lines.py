@@ -5,10 +5,10 @@ usage: lines.py PROGRAM
 """
 
 import random
-import subprocess
 import sys
-import threading
 
+import ask
+from prompt import trouble
 from states import PLACES
 
 TICK = b"0 0 1 0 0 0 0 0\n"
@@ -45,6 +45,7 @@ CASES += [
     (b"replay 1 \n", BAD), (b"replay  1\n", BAD), (b"replay 01\n", BAD), (b"replay 1 00\n", BAD),
     (b"replay 1  0\n", BAD), (b"replay 1 0 \n", BAD), (b"replay 1 -1\n", BAD), (b"replay x\n", BAD),
     (b"replay 0\nreplay 2\nreplay 65535\n", b"refused 7 0\n" * 3), (b"replay 65536\n", BAD),
+    (b"replay 256\nreplay 257\nreplay 65281\n", b"refused 7 0\n" * 3),  # the low byte of two is 1
     (b"replay 1 0 65535\n", AGREED), (b"replay 1 65536\n", b"refused 8 0\n"),
     (b"replay 1 0 4294967295\n", b"refused 8 1\n"), (b"replay 1 4294967296\n", BAD),
     (b"replay 1" + READ_LSR + b" %d\n" % 0x10000561, b"differs 1 97 96\n"),
@@ -60,38 +61,20 @@ for length in (3831, 3832, 3833, 3834, 11275, 11276, 11277, 65535, 65536, 65537,
               (b"y" * length + b"\ntick", BAD + TICK)]
 
 
-def answers(program, text):
-    return subprocess.run([program], input=text, stdout=subprocess.PIPE, check=True).stdout
+TEXT_LINES = 300
+TEXT = (b"tick", b"read 5", b"", LARGEST, b"fresh", b"state", b"level 3", b"z" * 7000, LONGEST,
+        b"replay 1" + READ_LSR * MOST_WORDS)
 
 
-def answers_in_pieces(program, text, pick):
-    """The same text through a pipe, in pieces of odd lengths."""
-    child = subprocess.Popen([program], stdin=subprocess.PIPE, stdout=subprocess.PIPE)
-    taken = []
-    reader = threading.Thread(target=lambda: taken.append(child.stdout.read()))
-    reader.start()
-    at = 0
-    while at < len(text):
-        size = pick.choice((1, 7, 100, 4000, 70000))
-        child.stdin.write(text[at:at + size])
-        child.stdin.flush()
-        at += size
-    child.stdin.close()
-    reader.join()
-    child.wait()
-    return taken[0]
-
-
-def talk(program):
-    """Each line is answered before the next is sent."""
-    child = subprocess.Popen([program], stdin=subprocess.PIPE, stdout=subprocess.PIPE, bufsize=0)
-    child.stdin.write(b"tick\nrea")
-    first = child.stdout.readline()
-    child.stdin.write(b"d 5\n")
-    second = child.stdout.readline()
-    child.stdin.close()
-    rest = child.stdout.read()
-    return (first, second, rest, child.wait()) == (TICK, b"0 96 1 0 0 0 0 0\n", b"", 0)
+def trouble_in_pieces(program):
+    """What is wrong with the answers to a text that comes in pieces of odd lengths, or None."""
+    pick = random.Random(3)
+    text = b"\n".join(pick.choice(TEXT) for _ in range(TEXT_LINES))
+    whole, _ = ask.answer(program, text)
+    if whole.count(b"\n") != TEXT_LINES:
+        return "%d answers to %d lines" % (whole.count(b"\n"), TEXT_LINES)
+    parts = ask.pieces(text, lambda _: pick.choice((1, 7, 100, 4000, 65535)))
+    return trouble(program, parts, whole)
 
 
 def main():
@@ -100,23 +83,16 @@ def main():
     program = sys.argv[1]
     wrong = 0
     for text, want in CASES:
-        got = answers(program, text)
-        if got != want:
-            print("%r answered %r, should be %r" % (text[:60], got[:60], want[:60]))
+        got = ask.answer(program, text)
+        if got != (want, 0):
+            print("%r answered %r with status %d, should be %r"
+                  % (text[:60], got[0][:60], got[1], want[:60]))
             wrong += 1
-    pick = random.Random(3)
-    choices = (b"tick", b"read 5", b"", LARGEST, b"fresh", b"state", b"level 3", b"z" * 7000, LONGEST,
-               b"replay 1" + READ_LSR * MOST_WORDS)
-    lines = [pick.choice(choices) for _ in range(300)]
-    text = b"\n".join(lines)
-    whole = answers(program, text)
-    if whole.count(b"\n") != len(lines) or whole != answers_in_pieces(program, text, pick):
-        print("answers depend on how the text comes")
+    found = trouble_in_pieces(program)
+    if found:
+        print("a text in pieces: %s" % found)
         wrong += 1
-    if not talk(program):
-        print("a line is not answered at once")
-        wrong += 1
-    print("lines: %d cases, %d wrong" % (len(CASES) + 2, wrong))
+    print("lines: %d cases, %d wrong" % (len(CASES) + 1, wrong))
     sys.exit(1 if wrong else 0)
 
 

@@ -9,9 +9,9 @@ register has to be refused in each of its places.
 usage: ranges.py PROGRAM [STATES]
 """
 
-import subprocess
 import sys
 
+import ask
 import states as st
 
 STEPS = ("reset", "tick", "ticks 3", "read 0", "read 2", "read 5", "read 6", "write 0 65",
@@ -24,15 +24,9 @@ NO_STEP = "1 0 0 0 0 0 0 0"
 NO_PINS = "1 0 0 0 0 0 0"
 
 
-def answers_of(program, lines):
-    text = "\n".join(lines) + "\n"
-    done = subprocess.run([program], input=text.encode(), stdout=subprocess.PIPE, check=True)
-    return done.stdout.decode().splitlines()
-
-
 def compare(program, script):
     """The script is pairs of a line and the wanted answer, or the wanted first number."""
-    answers = answers_of(program, [line for line, _ in script])
+    answers = ask.answer_lines(program, [line for line, _ in script])
     wrong = 0
     for (line, want), answer in zip(script, answers):
         if answer != want and not (len(want) == 1 and answer.split()[0] == want):

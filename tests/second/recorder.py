@@ -2,16 +2,16 @@
 becomes a record; the byte of a read is the one answered."""
 
 import os
-import subprocess
 import sys
 
+from ask import Talk
 from steps import Steps
 
 sys.path.insert(0, os.path.join(os.path.dirname(os.path.abspath(__file__)), "..", "..", "tools"))
 
 import utr  # noqa: E402  (found by the path above)
 
-# Lines sent ahead of their answers; both have to fit into a pipe.
+# Lines sent together; they and their answers have to fit into a pipe.
 AHEAD = 500
 
 
@@ -19,9 +19,10 @@ class Recorder(Steps):
     """A device from the fresh state on, and the records of what was done with it."""
 
     def __init__(self, calls):
-        self.child = subprocess.Popen([calls], stdin=subprocess.PIPE, stdout=subprocess.PIPE)
+        self.talk = Talk(calls)
         self.records = []
-        self.unanswered = []  # for each line sent, the place of its read, or None
+        self.lines = []  # not sent yet
+        self.places = []  # for each of them, the place of its read, or None
         self.start()
 
     def start(self, line="fresh"):
@@ -31,19 +32,19 @@ class Recorder(Steps):
         self.send(line)
 
     def send(self, line, place=None):
-        self.child.stdin.write(line.encode() + b"\n")
-        self.unanswered.append(place)
-        if len(self.unanswered) >= AHEAD:
+        self.lines.append(line.encode() + b"\n")
+        self.places.append(place)
+        if len(self.lines) >= AHEAD:
             self.settle()
 
     def settle(self):
-        """Takes the answers that are due and puts the bytes read into their records."""
-        self.child.stdin.flush()
-        for place in self.unanswered:
-            answer = self.child.stdout.readline().split()
+        """Makes the calls that wait and puts the bytes read into their records."""
+        self.talk.send(b"".join(self.lines))
+        for place, answer in zip(self.places, self.talk.lines(len(self.lines))):
             if place is not None:
-                self.records[place] |= int(answer[1])
-        self.unanswered = []
+                self.records[place] |= int(answer.split()[1])
+        self.lines = []
+        self.places = []
 
     def step(self, line):
         """A step in the text protocol, as its record or, for many ticks, records."""
@@ -71,6 +72,4 @@ class Recorder(Steps):
         return list(self.records)
 
     def close(self):
-        self.child.stdin.close()
-        self.child.stdout.close()
-        self.child.wait()
+        self.talk.end()

@@ -4,9 +4,9 @@
 usage: rows.py PROGRAM
 """
 
-import subprocess
 import sys
 
+import ask
 import states as st
 from steps import FCR, IIR, LCR, LSR, MSR, RBR, THR
 
@@ -49,9 +49,7 @@ class Rows:
             self.ticks(16)
 
     def check(self, program):
-        text = "\n".join(self.lines) + "\n"
-        done = subprocess.run([program], input=text.encode(), stdout=subprocess.PIPE, check=True)
-        answers = done.stdout.decode().splitlines()
+        answers = ask.answer_lines(program, self.lines)
         if len(answers) != len(self.lines):
             print("%d lines, %d answers" % (len(self.lines), len(answers)))
             return False
