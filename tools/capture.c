@@ -12,6 +12,7 @@
 #include <stdarg.h>
 #include <stdlib.h>
 #include <string.h>
+#include <unistd.h>
 
 #define TROUBLE 2
 #define MOST_LINE 200  /* bytes of a line before its comment */
@@ -146,10 +147,12 @@ static int digit_of(char c)
 static uint32_t number_of(const struct line *line, const struct word *word, const char *name,
                           uint32_t most)
 {
-    bool hex = word->length > 2 && word->text[0] == '0' && (word->text[1] == 'x' || word->text[1] == 'X');
+    bool hex = word->length > 1 && word->text[0] == '0' && (word->text[1] == 'x' || word->text[1] == 'X');
     int base = hex ? 16 : 10;
     uint64_t value = 0;
 
+    if (hex && word->length == 2)
+        stop_at(line, word->at + 2, "a digit is missing");
     if (!hex && word->length > 1 && word->text[0] == '0')
         stop_at(line, word->at, "a decimal number has no 0 in front; hexadecimal starts with 0x");
     for (size_t i = hex ? 2 : 0; i < word->length; i++) {
@@ -247,6 +250,8 @@ static void make_capture(void)
 
     if (made == NULL)
         stop("making a temporary file");
+    if (isatty(STDIN_FILENO))
+        fputs("capture: a listing is read from the terminal; Ctrl-D ends it\n", stderr);
     utr_write_header(made);
     while (read_line(&line))
         write_line(made, &line);
@@ -311,7 +316,7 @@ int main(int argc, char **argv)
     } else if (argc == 1) {
         make_capture();
     } else {
-        fprintf(stderr, "capture: %s is no argument; --list is the only one, and --help\n", argv[1]);
+        fprintf(stderr, "capture: %s: no such argument; see capture --help\n", argv[argc - 1]);
         return TROUBLE;
     }
     want_written(stdout);

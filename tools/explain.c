@@ -442,6 +442,8 @@ int main(int argc, char **argv)
 
     if (in == NULL)
         stop(options.path);
+    if (isatty(fileno(in)))
+        stop_argument("a capture is awaited, not a terminal", options.path == NULL ? "-" : options.path);
     choose_colours();
     status = explain(options.all ? rewindable(in) : in, &options);
     if (fflush(stdout) != 0)

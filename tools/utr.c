@@ -11,7 +11,7 @@ const struct utr_form utr_forms[UTR_KINDS] = {
     [UTR_READ] = {"read", 11, 2, {ADDRESS, BYTE}},
     [UTR_WRITE] = {"write", 11, 2, {ADDRESS, BYTE}},
     [UTR_SIN] = {"sin", 1, 1, {{"level", 1, 0}}},
-    [UTR_MODEM] = {"modem", 4, 1, {{"pins", 15, 0}}},
+    [UTR_MODEM] = {"modem", 4, 1, {{"value", 15, 0}}},
     [UTR_RESET] = {"reset", 0, 0, {{NULL, 0, 0}}},
 };
 
