@@ -1,6 +1,7 @@
-"""The stored captures, and the second program's own reading of records."""
+"""The stored captures, and the second program: its reading of records, its answers."""
 
 import os
+import subprocess
 import sys
 
 TOP = os.path.dirname(os.path.dirname(os.path.dirname(os.path.abspath(__file__))))
@@ -19,3 +20,9 @@ def stored():
             number, name = line.split()
             with open(os.path.join(DATA, number), "rb") as file:
                 yield name, file.read()
+
+
+def answer_to(data):
+    """The second program's replay of a capture."""
+    done = subprocess.run([os.path.join(SECOND, "replay")], input=data, stdout=subprocess.PIPE, check=True)
+    return done.stdout.decode().rstrip("\n")
