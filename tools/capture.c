@@ -58,7 +58,7 @@ static void want_read(FILE *in)
 
 static void want_written(FILE *out)
 {
-    if (fflush(out) != 0)
+    if (fflush(out) != 0 || ferror(out))
         stop("writing");
 }
 

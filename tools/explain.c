@@ -242,14 +242,15 @@ static void list_context(const struct window *window, size_t context)
         list_rest(&window->rest);
 }
 
-static void list_all(FILE *in)
+/* Every record; the first stands at byte `begin` of the file. */
+static void list_all(FILE *in, long begin)
 {
     static uint32_t words[UTR_BLOCK];
     struct position position = {0, 0, model_fresh()};
     struct utr_rest rest;
     size_t count;
 
-    if (fseek(in, UTR_HEADER_BYTES, SEEK_SET) != 0)
+    if (fseek(in, begin, SEEK_SET) != 0)
         stop("going back to the first record");
     list_heading();
     do {
@@ -339,8 +340,9 @@ static FILE *rewindable(FILE *in)
         fwrite(bytes, 1, count, copy);
     if (ferror(in))
         stop("reading");
-    if (fseek(copy, 0, SEEK_SET) != 0)
+    if (fflush(copy) != 0 || ferror(copy))
         stop("writing a temporary file");
+    rewind(copy);
     return copy;
 }
 
@@ -348,6 +350,7 @@ static enum status explain(FILE *in, const struct options *options)
 {
     static struct window window;
     struct utr_header header = utr_read_header(in);
+    long begin = options->all ? ftell(in) : 0;
     enum status status;
 
     if (ferror(in))
@@ -365,7 +368,7 @@ static enum status explain(FILE *in, const struct options *options)
     else
         tell_bad_record(&window);
     if (options->all)
-        list_all(in);
+        list_all(in, begin);
     else
         list_context(&window, options->context);
     if (status == AGREED)
@@ -446,7 +449,7 @@ int main(int argc, char **argv)
         stop_argument("a capture is awaited, not a terminal", options.path == NULL ? "-" : options.path);
     choose_colours();
     status = explain(options.all ? rewindable(in) : in, &options);
-    if (fflush(stdout) != 0)
+    if (fflush(stdout) != 0 || ferror(stdout))
         stop("writing");
     return status;
 }

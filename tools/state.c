@@ -1,6 +1,5 @@
 #include "state.h"
 
-#include "model.h"
 #include "names.h"
 
 #include <inttypes.h>

@@ -2,7 +2,7 @@
 #ifndef STATE_H
 #define STATE_H
 
-#include "uart.h"
+#include "model.h"
 
 #include <stdio.h>
 

@@ -34,11 +34,13 @@ GOOD = (
     ("reset" + " " * 195 + "# " + "x" * 100000, [0x50000000]),
 )
 
+NO_NAME = "no record's name: ticks, read, write, sin, modem, reset, record"
+
 # A listing, and what is said of it.
 BAD = (
-    ("Reset\n", "line 1, column 1: no record's name: ticks, read, write, sin, modem, reset, record"),
-    ("reset\n\n  tick 1\n", "line 3, column 3: no record's name: ticks, read, write, sin, modem, reset, record"),
-    ("5\n", "line 1, column 1: no record's name: ticks, read, write, sin, modem, reset, record"),
+    ("Reset\n", "line 1, column 1: " + NO_NAME),
+    ("reset\n\n  tick 1\n", "line 3, column 3: " + NO_NAME),
+    ("5\n", "line 1, column 1: " + NO_NAME),
     ("read 5\n", "line 1, column 7: `read` has 2 numbers, here is 1"),
     ("write\n", "line 1, column 6: `write` has 2 numbers, here are 0"),
     ("sin # 1\n", "line 1, column 5: `sin` has 1 number, here are 0"),
