@@ -1,15 +1,9 @@
 """Records captures from the second program: every step is made by its `calls`, in one process, and
 becomes a record; the byte of a read is the one answered."""
 
-import os
-import sys
-
+import utr
 from ask import Talk
 from steps import Steps
-
-sys.path.insert(0, os.path.join(os.path.dirname(os.path.abspath(__file__)), "..", "..", "tools"))
-
-import utr  # noqa: E402  (found by the path above)
 
 # Lines sent together; they and their answers have to fit into a pipe.
 AHEAD = 500

@@ -1,0 +1,33 @@
+/* The proved library as explain uses it: the only file that names its calls is model.c. */
+#ifndef MODEL_H
+#define MODEL_H
+
+#include "uart.h"
+
+/* How a replay of some records ended: at a place in them, or after the last. */
+enum model_end { MODEL_AGREED, MODEL_DIFFERS, MODEL_BAD_RECORD };
+
+struct model_outcome {
+    enum model_end end;
+    size_t place; /* the number of records where it agreed */
+    uint8_t seen;
+    uint8_t model;
+};
+
+struct uart_state model_fresh(void);
+
+/* Replays records; the state moves to the end, or to just before the record at the place. */
+struct model_outcome model_replay(struct uart_state *state, const uint32_t *records, size_t count);
+
+/* The step of a good record; answers the model's byte of a read. */
+uint8_t model_step(struct uart_state *state, uint32_t record);
+
+/* The byte that a read of an address would answer. */
+uint8_t model_peek(const struct uart_state *state, uint8_t address);
+
+struct uart_outputs model_pins(const struct uart_state *state);
+
+/* The number answered: 0, or 4 without a clock, or 5 held back; with 0 the ticks. */
+unsigned model_forecast(const struct uart_state *state, uint32_t *ticks);
+
+#endif
