@@ -45,7 +45,7 @@ abbrev pub larger : ℕ → ℕ → ℕ
 larger m n = cond (ltb m n) n m
 
 -- a struct's fields after those so far: each at the next multiple of its alignment
-pub fieldsAfter : Shape → List Shape → Shape
+abbrev pub fieldsAfter : Shape → List Shape → Shape
 fieldsAfter s [] = s
 fieldsAfter s (f ∷ fs) =
     fieldsAfter (record { size = upTo (f .align) (s .size) + f .size; align = larger (s .align) (f .align) }) fs

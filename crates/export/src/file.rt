@@ -11,8 +11,8 @@ use sheet::answer;
 ghost use mathlib.Core.Path.{_≡_};
 ghost use mathlib.Core.List.{List, [], _++_};
 ghost use Prim.Native.Nat.{ℕ, _+_, _*_, _/_, _≤_, _<_, _^_};
-ghost use lib.Dec.{ltb};
 ghost use lib.ListN.{length, drop};
+ghost use Rattle.capture.specs.Replay.{refused as «refused-at»};
 ghost use Rattle.capture.specs.File.{captureOf, restOf};
 ghost use Rattle.export.specs.Replay.{replayAnswer};
 ghost use Rattle.export.specs.File.{stoppedBy, outcomeOf, carriedOf, handedOf, beyondOf, restAnswer};
@@ -114,16 +114,6 @@ fn replay_blocks(p: parts::Progress, bytes: &[u8]) -> parts::Progress
     parts::go_on(q, &bytes[at..], &mut records)
 }
 
-// Whether a file would have more than the most records.
-fn beyond(done: usize, more: usize) -> bool
-    ensures { λ r. ⌜ r ≡ ltb (2 ^ 62) (done + more) ⌝ }
-{
-    if MOST < done {
-        return true;
-    }
-    MOST - done < more
-}
-
 // A file that would have more than the most records is refused, and the state is as it was.
 fn refused(p: Progress) -> Progress
     ensures { λ r. ⌜ r ≡ beyondOf p ⌝ }
@@ -141,6 +131,15 @@ fn refused(p: Progress) -> Progress
         },
         state,
     }
+}
+
+fn too_many(p: Progress) -> Replay
+    ensures { λ r. ⌜ r ≡ replayAnswer («refused-at» 1 (p .state) 0) ⌝ }
+{
+    let q = refused(p);
+    let values = q.values;
+    let state = q.state;
+    Replay { values, state }
 }
 
 // The file that begins with these bytes, which are its header, or all of it where it is shorter.
@@ -163,7 +162,11 @@ pub extern "C" fn uart_replay_more(p: Progress, bytes: &[u8]) -> Progress
     ensures { λ r. ⌜ r .done ≤ p .done + length (now (bytes .entry)) / 4 ⌝ }
 {
     let done = p.done;
-    if beyond(done, bytes.len() / 4) {
+    let records = bytes.len() / 4;
+    if MOST < done {
+        return refused(p);
+    }
+    if MOST - done < records {
         return refused(p);
     }
     let q = replay_blocks(carried(p), bytes);
@@ -174,15 +177,15 @@ pub extern "C" fn uart_replay_more(p: Progress, bytes: &[u8]) -> Progress
 #[no_mangle]
 pub extern "C" fn uart_replay_end(p: Progress, bytes: &[u8]) -> Replay
     ensures { λ r. ⌜ (p .done + length (now (bytes .entry)) / 4 ≤ 2 ^ 62 → r ≡ restAnswer p (now (bytes .entry))) ⌝ }
-    ensures { λ r. ⌜ (2 ^ 62 < p .done + length (now (bytes .entry)) / 4 → r ≡ restAnswer (beyondOf p) []) ⌝ }
+    ensures { λ r. ⌜ (2 ^ 62 < p .done + length (now (bytes .entry)) / 4 → r ≡ replayAnswer («refused-at» 1 (p .state) 0)) ⌝ }
 {
     let done = p.done;
     let records = bytes.len() / 4;
-    if beyond(done, records) {
-        let q = refused(p);
-        let values = q.values;
-        let state = q.state;
-        return Replay { values, state };
+    if MOST < done {
+        return too_many(p);
+    }
+    if MOST - done < records {
+        return too_many(p);
     }
     let q = replay_blocks(carried(p), bytes);
     let at = 4 * records;
