@@ -1,6 +1,7 @@
 """The UART as an object that holds its state."""
 from __future__ import annotations
 
+import array
 import ctypes
 import io
 import itertools
@@ -89,7 +90,7 @@ def _difference(values: Values, before: int = 0) -> Optional[Difference]:
 
 
 def _word(record: Any) -> int:
-    """A record that is given as a number."""
+    """A record that is given as a number, or the reason why it is none."""
     if isinstance(record, (bytes, bytearray, memoryview)):
         raise TypeError("records are numbers, not bytes: replay_file takes a capture's file")
     return fits(record, 32, "a record")
@@ -98,8 +99,12 @@ def _word(record: Any) -> int:
 def _numbers(records: Iterable[int]) -> Iterator[Any]:
     """Records that are given as numbers, a piece at a time."""
     left = iter(records)
-    while piece := [_word(record) for record in itertools.islice(left, _RECORDS)]:
-        yield (ctypes.c_uint32 * len(piece))(*piece)
+    while piece := list(itertools.islice(left, _RECORDS)):
+        try:
+            words = array.array("I", piece)
+        except (OverflowError, TypeError):
+            words = array.array("I", map(_word, piece))
+        yield (ctypes.c_uint32 * len(words)).from_buffer(words)
 
 
 def _words(view: memoryview) -> Iterator[Any]:
