@@ -10,7 +10,9 @@ HEADER = clients/tl16c750.h
 VERSION := $(shell awk '/define UART_VERSION_/ { printf "%s%s", dot, $$3; dot = "." }' $(HEADER))
 LAYOUT := $(shell awk '/define UART_LAYOUT/ { print $$3 }' $(HEADER))
 PYTHON_VERSION = $(shell $(PYTHON) -c 'import sys; print("%d.%d" % sys.version_info[:2])')
-SOURCES := $(shell find crates -name '*.rt')
+
+# $(call sources_of,CRATE): the code of a crate and of all that it uses.
+sources_of = $(wildcard $(patsubst %,crates/%/src/*.rt,$1 $(shell sed -n 's/^$1://p' crates.txt)))
 
 PROGRAMS = calls replay
 ARCHIVE = target/staticlib/libexport.a
@@ -29,7 +31,7 @@ library: $(STATIC) $(SHARED)
 
 programs: $(PROGRAMS:%=target/bin/%)
 
-$(ARCHIVE): $(SOURCES)
+$(ARCHIVE): $(call sources_of,export)
 	$(call quietly,staticlib,rt staticlib export)
 	@touch $@
 
@@ -41,7 +43,8 @@ $(SHARED): $(ARCHIVE) $(HEADER)
 	@mkdir -p $(OUT)
 	$(CC) -shared -Wl,-soname,libtl16c750.so.$(LAYOUT) -o $@ -Wl,--whole-archive $< -Wl,--no-whole-archive
 
-target/bin/%: $(SOURCES)
+$(foreach program,$(PROGRAMS),$(eval target/bin/$(program): $(call sources_of,$(program))))
+target/bin/%:
 	$(call quietly,$*,rt check $*)
 	@touch $@
 

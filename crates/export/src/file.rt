@@ -169,8 +169,9 @@ pub extern "C" fn uart_replay_more(p: Progress, bytes: &[u8]) -> Progress
     if MOST - done < records {
         return refused(p);
     }
-    let q = replay_blocks(carried(p), bytes);
-    handed(q)
+    let begun = carried(p);
+    let so_far = replay_blocks(begun, bytes);
+    handed(so_far)
 }
 
 // The answer for a file that ends with these bytes.
@@ -187,7 +188,8 @@ pub extern "C" fn uart_replay_end(p: Progress, bytes: &[u8]) -> Replay
     if MOST - done < records {
         return too_many(p);
     }
-    let q = replay_blocks(carried(p), bytes);
+    let begun = carried(p);
+    let q = replay_blocks(begun, bytes);
     let at = 4 * records;
     let mut room = [0u32; 1];
     let r = parts::finish(q, &bytes[at..], &mut room);
