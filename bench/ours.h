@@ -1,5 +1,5 @@
 /* The proved library: the state goes in and comes back by value. */
-#include "uart.h"
+#include "tl16c750.h"
 
 struct device {
     struct uart_state state;

@@ -1,9 +1,9 @@
 /*
  * Sends a message, clears the transmit FIFO in the middle of a character, and prints what left the
  * line: the character that had begun is finished, as the part finishes it. Then replays a capture of
- * the same.
+ * the same, from records and from a file.
  */
-#include "uart.h"
+#include "tl16c750.h"
 
 #include <inttypes.h>
 #include <stdbool.h>
@@ -93,19 +93,53 @@ static void print_line(void)
     printf("left the line: %.*s\n", (int)length, text);
 }
 
-/* Replays a capture from the fresh state, and prints its end as the program `replay` does. */
+static void print_outcome(const char *what, struct uart_values v)
+{
+    if (v.number != UART_DONE)
+        printf("%s: refused %d %zu\n", what, v.number, v.place);
+    else if (v.seen != v.model)
+        printf("%s: differs %zu %d %d\n", what, v.place, v.seen, v.model);
+    else
+        printf("%s: agreed\n", what);
+}
+
+/* Replays records of a capture from the fresh state, and prints the end as the program `replay` does. */
 static void print_replay(const uint32_t *records, size_t count)
 {
-    struct uart_replay r = uart_replay(uart_fresh(), 1, records, count);
-    struct uart_values v = r.values;
+    struct uart_replayed r = uart_replay(uart_fresh(), 1, records, count);
 
-    if (v.number != UART_DONE)
-        printf("replay: refused %d %zu\n", v.number, v.place);
-    else if (v.seen != v.model)
-        printf("replay: differs %zu %d %d\n", v.place, v.seen, v.model);
-    else
-        printf("replay: agreed\n");
+    print_outcome("replay", r.values);
     uart = r.state;
+}
+
+static void print_progress(void *context, size_t records, size_t bytes, size_t of)
+{
+    (void)context;
+    printf("file: %zu records, %zu of %zu bytes\n", records, bytes, of);
+}
+
+/* Replays the same as a file: the header (mark, version, pad), then each record, little-endian. */
+static void print_file(const uint32_t *records, size_t count)
+{
+    const uint8_t header[UART_HEADER_BYTES] = {'U', 'T', 'R', 0, 1, 0, 0, 0};
+    FILE *file = tmpfile();
+    struct uart_replayed r;
+
+    if (file == NULL) {
+        perror("a file for the capture");
+        exit(EXIT_FAILURE);
+    }
+    fwrite(header, 1, sizeof header, file);
+    for (size_t i = 0; i < count; i++)
+        for (unsigned shift = 0; shift < 32; shift += 8)
+            fputc((int)(records[i] >> shift & 0xFF), file);
+    rewind(file);
+    if (uart_replay_file(file, &r, print_progress, NULL) != 0) {
+        perror("the capture");
+        exit(EXIT_FAILURE);
+    }
+    fclose(file);
+    print_outcome("file", r.values);
 }
 
 /* A character is on the line when the transmit FIFO is cleared; LSR is read then. */
@@ -124,6 +158,7 @@ static void replay_captures(void)
     size_t count = sizeof records / sizeof records[0];
 
     print_replay(records, count);
+    print_file(records, count);
     records[7] = 0x10000560; /* LSR: 60 seen */
     print_replay(records, count);
     print_forecast();

@@ -1,5 +1,5 @@
-/* The structs of uart.h lie as the library's do, and every bit pattern is a state. */
-#include "uart.h"
+/* The structs of tl16c750.h lie as the library's do, and every bit pattern is a state. */
+#include "tl16c750.h"
 
 #include <stdio.h>
 #include <stdlib.h>
@@ -46,6 +46,14 @@ static void check_outputs(struct uart_outputs o)
     HAS(o, intrpt, 107);
 }
 
+static void check_values(struct uart_values v)
+{
+    HAS(v, number, 100);
+    HAS(v, seen, 101);
+    HAS(v, model, 108);
+    HAS(v, place, 109);
+}
+
 static void check_specimens(void)
 {
     struct uart_answer answer = uart_specimen_answer();
@@ -53,7 +61,8 @@ static void check_specimens(void)
     struct uart_forecasted forecasted = uart_specimen_forecasted();
     struct uart_leveled leveled = uart_specimen_leveled();
     struct uart_ran ran = uart_specimen_ran();
-    struct uart_replay replay = uart_specimen_replay();
+    struct uart_replayed replayed = uart_specimen_replayed();
+    struct uart_progress progress = uart_specimen_progress();
 
     check_state(uart_specimen_state());
     HAS(answer, number, 100);
@@ -69,11 +78,13 @@ static void check_specimens(void)
     HAS(ran, number, 100);
     HAS(ran, used, 101);
     check_state(ran.state);
-    HAS(replay, values.number, 100);
-    HAS(replay, values.seen, 101);
-    HAS(replay, values.model, 108);
-    HAS(replay, values.place, 109);
-    check_state(replay.state);
+    check_values(replayed.values);
+    check_state(replayed.state);
+    HAS(progress, version, 110);
+    HAS(progress, stopped, 111);
+    HAS(progress, done, 112);
+    check_values(progress.values);
+    check_state(progress.state);
 }
 
 static void check_sizes(void)
@@ -84,7 +95,8 @@ static void check_sizes(void)
     expect(uart_size_of_forecasted() == sizeof(struct uart_forecasted), "size of forecasted");
     expect(uart_size_of_leveled() == sizeof(struct uart_leveled), "size of leveled");
     expect(uart_size_of_ran() == sizeof(struct uart_ran), "size of ran");
-    expect(uart_size_of_replay() == sizeof(struct uart_replay), "size of replay");
+    expect(uart_size_of_replayed() == sizeof(struct uart_replayed), "size of replayed");
+    expect(uart_size_of_progress() == sizeof(struct uart_progress), "size of progress");
 }
 
 /* A state handed in reaches the library field by field: what it is refused for, and what not. */
@@ -124,7 +136,7 @@ static void check_records(void)
 {
     const uint32_t records[] = {0x2000075A, 0x1000075A, 0x10000700, 0xFFFFFFFF};
     struct uart_state fresh = uart_fresh();
-    struct uart_replay r;
+    struct uart_replayed r;
 
     r = uart_replay(fresh, 1, records, 0);
     expect(r.values.number == UART_DONE && r.values.place == 0, "replay of nothing");
@@ -144,6 +156,56 @@ static void check_records(void)
     r = uart_replay(uart_specimen_state(), 0, records, 4);
     expect(r.values.number == UART_MALFORMED && r.values.place == 0, "replay from the specimen");
     check_state(r.state);
+}
+
+/* Any progress handed in is carried on, and one beyond what a file can have is refused. */
+static void check_progress(void)
+{
+    const uint8_t tick[] = {1, 0, 0, 0};
+    struct uart_progress p = uart_specimen_progress();
+    struct uart_replayed r = uart_replay_end(p, tick, 1);
+
+    expect(r.values.number == UART_MALFORMED && r.values.place == 0, "too many records");
+    check_state(r.state);
+    p.done = 7;
+    p = uart_replay_more(p, tick, 4);
+    expect(p.stopped == UART_REFUSED && p.done == 7, "what is stopped stays so");
+    expect(p.values.number == 100, "the number of what is stopped");
+    p.stopped = UART_GOING_ON;
+    p = uart_replay_more(p, tick, 4);
+    expect(p.stopped == UART_REFUSED && p.values.number == UART_MALFORMED, "a malformed state");
+    expect(p.values.place == 7, "place of a malformed state");
+}
+
+/* States are compared by their fields: padding has no part in it. */
+static void check_equal(void)
+{
+    struct uart_state a;
+    struct uart_state b;
+    struct uart_state fresh = uart_fresh();
+
+    memset(&a, 0x00, sizeof a);
+    memset(&b, 0xFF, sizeof b);
+#define COPY(field, place, number) \
+    memcpy(&a.field, &fresh.field, sizeof a.field); \
+    memcpy(&b.field, &fresh.field, sizeof b.field);
+    UART_STATE_FIELDS(COPY)
+    memcpy(&a.rx.entries, &fresh.rx.entries, sizeof a.rx.entries);
+    memcpy(&b.rx.entries, &fresh.rx.entries, sizeof b.rx.entries);
+    expect(uart_equal(&a, &b), "equal but for padding");
+    b.rx.entries[63].bi = 1;
+    expect(!uart_equal(&a, &b), "an entry's last flag");
+    b.rx.entries[63].bi = 0;
+    b.latches.idle = 1;
+    expect(!uart_equal(&a, &b), "the idle count");
+}
+
+static void check_version(void)
+{
+    struct uart_versions v = uart_version();
+
+    expect(v.major == UART_VERSION_MAJOR && v.minor == UART_VERSION_MINOR, "version");
+    expect(v.patch == UART_VERSION_PATCH && v.layout == UART_LAYOUT, "patch and layout");
 }
 
 /* Whatever stands in memory, the call ends, and is refused where it must be. */
@@ -174,6 +236,9 @@ int main(void)
     check_specimens();
     check_parameters();
     check_records();
+    check_progress();
+    check_equal();
+    check_version();
     check_any_memory();
     puts(wrong ? "layout: differs" : "layout: ok");
     return wrong ? EXIT_FAILURE : EXIT_SUCCESS;

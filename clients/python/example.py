@@ -1,9 +1,10 @@
 """Sends a message, clears the transmit FIFO in the middle of a character, and prints what left the
 line: the character that had begun is finished, as the part finishes it. Then replays a capture of
-the same."""
-import ctypes
+the same, from records and from a file."""
+import io
+import struct
 
-from uart import DLL, FCR, LCR, LSR, THR, Refused, Uart
+from tl16c750 import DLL, FCR, LCR, LSR, PLACES, THR, Refused, Uart
 
 PULSES_PER_BIT = 16  # and a tick is a pulse: the divisor is 1
 BITS_PER_FRAME = 10  # start, eight data bits, stop
@@ -45,15 +46,30 @@ def print_line(sout):
     print(f"left the line: {text}")
 
 
-def print_replay(records):
-    """Replays a capture from the fresh state, and prints its end as the program `replay` does."""
-    uart = Uart()
+def print_outcome(what, replay):
+    """Prints the end of a replay as the program `replay` does."""
     try:
-        difference = uart.replay(1, records)
-        print("replay:", "differs %d %d %d" % difference if difference else "agreed")
+        difference = replay()
+        print(f"{what}:", "differs %d %d %d" % difference if difference else "agreed")
     except Refused as refusal:
-        print(f"replay: refused {refusal.number} {refusal.place}")
+        print(f"{what}: refused {refusal.number} {refusal.place}")
+
+
+def print_replay(records):
+    """Replays records of a capture from the fresh state."""
+    uart = Uart()
+    print_outcome("replay", lambda: uart.replay(1, records))
     return uart
+
+
+def print_progress(records, read, total):
+    print(f"file: {records} records, {read} of {total} bytes")
+
+
+def print_file(records):
+    """Replays the same as a file: the header (mark, version, pad), then each record, little-endian."""
+    file = io.BytesIO(struct.pack(f"<4sHH{len(records)}I", b"UTR", 1, 0, *records))
+    print_outcome("file", lambda: Uart().replay_file(file, print_progress))
 
 
 def replay_captures():
@@ -69,6 +85,7 @@ def replay_captures():
         0x10000520,  # LSR: 20 seen
     ]
     print_replay(records)
+    print_file(records)
     records[7] = 0x10000560  # LSR: 60 seen
     print_forecast(print_replay(records))
     records[5] = 0x60000000  # of no kind
@@ -113,9 +130,10 @@ def main():
         uart.sin = 2
 
     print(f"SIN at 2: number {number(raise_sin)}")
-    ctypes.memset(ctypes.byref(uart.state), 0xFF, ctypes.sizeof(uart.state))
+    uart.state.tx.bytes = [0xFF] * PLACES
     print(f"pins of a damaged state: number {number(lambda: uart.pins)}")
     replay_captures()
 
 
-main()
+if __name__ == "__main__":
+    main()

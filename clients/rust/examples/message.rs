@@ -1,7 +1,8 @@
 // Sends a message, clears the transmit FIFO in the middle of a character, and prints what left the
 // line: the character that had begun is finished, as the part finishes it. Then replays a capture of
-// the same.
-use tl16c750::{Outcome, Refusal, Uart, DLL, FCR, LCR, LSR, THR};
+// the same, from records and from a file.
+use std::error::Error;
+use tl16c750::{Refusal, Told, Uart, DLL, FCR, LCR, LSR, THR};
 
 const PULSES_PER_BIT: usize = 16; // and a tick is a pulse: the divisor is 1
 const BITS_PER_FRAME: usize = 10; // start, eight data bits, stop
@@ -47,21 +48,30 @@ fn print_line(sout: &[u8]) {
     println!("left the line: {text}");
 }
 
-// Replays a capture from the fresh state, and prints its end as the program `replay` does.
+// Replays records of a capture from the fresh state, and prints the end as the program `replay` does.
 fn print_replay(records: &[u32]) -> Uart {
     let mut uart = Uart::fresh();
-    match uart.replay(1, records) {
-        Outcome::Agreed => println!("replay: agreed"),
-        Outcome::Differs { place, seen, model } => {
-            println!("replay: differs {place} {seen} {model}")
-        }
-        Outcome::Refused { refusal, place } => println!("replay: refused {} {place}", refusal.0),
-    }
+    println!("replay: {}", uart.replay(1, records));
     uart
 }
 
+// Replays the same as a file: the header (mark, version, pad), then each record, little-endian.
+fn print_file(records: &[u32]) -> std::io::Result<()> {
+    let mut file = b"UTR\0\x01\0\0\0".to_vec();
+    for record in records {
+        file.extend_from_slice(&record.to_le_bytes());
+    }
+    let length = file.len() as u64;
+    let outcome = Uart::fresh().replay_file_telling(&file[..], Some(length), |told| {
+        let Told { records, bytes, .. } = told;
+        println!("file: {records} records, {bytes} of {length} bytes");
+    })?;
+    println!("file: {outcome}");
+    Ok(())
+}
+
 // A character is on the line when the transmit FIFO is cleared; LSR is read then.
-fn replay_captures() {
+fn replay_captures() -> std::io::Result<()> {
     let mut records = [
         0x20000383, // LCR 83: the divisor at 0 and 1
         0x20000001, // DLL 01
@@ -73,13 +83,15 @@ fn replay_captures() {
         0x10000520, // LSR: 20 seen
     ];
     print_replay(&records);
+    print_file(&records)?;
     records[7] = 0x10000560; // LSR: 60 seen
     print_forecast(&print_replay(&records));
     records[5] = 0x60000000; // of no kind
     print_replay(&records);
+    Ok(())
 }
 
-fn main() -> Result<(), Refusal> {
+fn main() -> Result<(), Box<dyn Error>> {
     let message = "HELLO, BEAM";
     let mut sout = Vec::new();
 
@@ -121,6 +133,6 @@ fn main() -> Result<(), Refusal> {
     println!("SIN at 2: number {}", number(uart.set_sin(2)));
     uart.state.tx.bytes = [0xFF; 64];
     println!("pins of a damaged state: number {}", number(uart.pins()));
-    replay_captures();
+    replay_captures()?;
     Ok(())
 }

@@ -7,43 +7,75 @@
 //! assert_eq!(uart.read(LSR)?, 0x60);
 //! # Ok::<(), tl16c750::Refusal>(())
 //! ```
+//!
+//! The crate is `no_std`; its feature `std`, on unless it is turned off, adds
+//! [`Uart::replay_file`] over [`std::io::Read`]. Without it a file is replayed by [`File`].
 
-use std::fmt;
+#![no_std]
+#![deny(missing_docs)]
 
+#[cfg(feature = "std")]
+extern crate std;
+
+use core::fmt;
+
+mod file;
 pub mod raw;
+
+pub use file::File;
+#[cfg(feature = "std")]
+pub use file::Told;
 
 pub use raw::{
     Baud, ByteQueue, Entry, EntryQueue, FifoControl, Frame, Inputs, Latches, Outputs, Receiver,
     Registers, State,
 };
 
-// Register addresses. With LCR bit 7 set, 0 and 1 are the divisor's low and high byte.
+/// Receive buffer, on reads.
 pub const RBR: u8 = 0;
+/// Transmit holding, on writes.
 pub const THR: u8 = 0;
+/// The divisor's low byte, with LCR bit 7 set.
 pub const DLL: u8 = 0;
+/// The divisor's high byte, with LCR bit 7 set.
 pub const DLM: u8 = 1;
+/// Interrupt enable.
 pub const IER: u8 = 1;
+/// Interrupt identification, on reads.
 pub const IIR: u8 = 2;
+/// FIFO control, on writes.
 pub const FCR: u8 = 2;
+/// Line control.
 pub const LCR: u8 = 3;
+/// Modem control.
 pub const MCR: u8 = 4;
+/// Line status.
 pub const LSR: u8 = 5;
+/// Modem status.
 pub const MSR: u8 = 6;
+/// Scratch.
 pub const SCR: u8 = 7;
 
 /// A refusal, by its number. The state is as it was; of a replay see [`Outcome`].
-#[derive(Clone, Copy, Debug, PartialEq, Eq)]
+#[derive(Clone, Copy, Debug, PartialEq, Eq, Hash)]
 pub struct Refusal(pub u8);
 
 impl Refusal {
+    /// The state is not well formed.
     pub const MALFORMED: Refusal = Refusal(1);
+    /// A register address above 7.
     pub const BAD_ADDRESS: Refusal = Refusal(2);
+    /// SIN above 1, or modem pins above 15.
     pub const BAD_LEVEL: Refusal = Refusal(3);
+    /// Work left and the divisor is 0.
     pub const NO_CLOCK: Refusal = Refusal(4);
+    /// Bytes queued and held by flow control.
     pub const HELD_BACK: Refusal = Refusal(5);
-    /// Of a file alone: only the program `replay` answers it.
+    /// Of a file alone: a bad mark or a nonzero pad.
     pub const BAD_HEADER: Refusal = Refusal(6);
+    /// A capture of an unknown version.
     pub const UNKNOWN_VERSION: Refusal = Refusal(7);
+    /// A record of bad kind, with stray bits, or cut off.
     pub const BAD_RECORD: Refusal = Refusal(8);
 }
 
@@ -57,14 +89,14 @@ impl fmt::Display for Refusal {
             Refusal::HELD_BACK => "bytes queued and held by flow control",
             Refusal::BAD_HEADER => "bad mark or nonzero pad of a capture",
             Refusal::UNKNOWN_VERSION => "unknown version of a capture",
-            Refusal::BAD_RECORD => "record of bad kind or with stray bits",
+            Refusal::BAD_RECORD => "record of bad kind, with stray bits, or cut off",
             _ => "refused",
         };
         write!(f, "{why} (number {})", self.0)
     }
 }
 
-impl std::error::Error for Refusal {}
+impl core::error::Error for Refusal {}
 
 fn done<T>(number: u8, value: T) -> Result<T, Refusal> {
     if number == 0 {
@@ -75,19 +107,58 @@ fn done<T>(number: u8, value: T) -> Result<T, Refusal> {
 }
 
 /// How a replay ended. Places count from 0 at the first record.
-#[derive(Clone, Copy, Debug, PartialEq, Eq)]
+#[derive(Clone, Copy, Debug, PartialEq, Eq, Hash)]
 pub enum Outcome {
     /// Every read saw the model's byte; the state is the end state.
     Agreed,
     /// The read at the place saw another byte than the model's; the state is that before it.
-    Differs { place: usize, seen: u8, model: u8 },
+    Differs {
+        /// The place of the read.
+        place: usize,
+        /// The byte that it saw.
+        seen: u8,
+        /// The model's byte.
+        model: u8,
+    },
     /// The record at the place is bad, and the state is that before it; or another refusal, with
     /// place 0 and the state as it was.
-    Refused { refusal: Refusal, place: usize },
+    Refused {
+        /// Why.
+        refusal: Refusal,
+        /// The place of the record.
+        place: usize,
+    },
+}
+
+impl Outcome {
+    fn of(values: raw::Values) -> Outcome {
+        let raw::Values {
+            number,
+            seen,
+            model,
+            place,
+        } = values;
+        match done(number, ()) {
+            Err(refusal) => Outcome::Refused { refusal, place },
+            Ok(()) if seen != model => Outcome::Differs { place, seen, model },
+            Ok(()) => Outcome::Agreed,
+        }
+    }
+}
+
+/// As the program `replay` tells it.
+impl fmt::Display for Outcome {
+    fn fmt(&self, f: &mut fmt::Formatter<'_>) -> fmt::Result {
+        match self {
+            Outcome::Agreed => write!(f, "agreed"),
+            Outcome::Differs { place, seen, model } => write!(f, "differs {place} {seen} {model}"),
+            Outcome::Refused { refusal, place } => write!(f, "refused {} {place}", refusal.0),
+        }
+    }
 }
 
 /// The UART, holding its state.
-#[derive(Clone, Copy, Debug, PartialEq, Eq)]
+#[derive(Clone, Copy, Debug, PartialEq, Eq, Hash)]
 pub struct Uart {
     /// Any state may be put here; one that is not well formed is refused by every call.
     pub state: State,
@@ -184,19 +255,9 @@ impl Uart {
     /// A replay of records of a capture, up to the first read whose byte differs from the model's.
     pub fn replay(&mut self, version: u32, records: &[u32]) -> Outcome {
         // SAFETY: the address and the length are those of a slice.
-        let replay =
+        let replayed =
             unsafe { raw::uart_replay(self.state, version, records.as_ptr(), records.len()) };
-        let raw::Values {
-            number,
-            seen,
-            model,
-            place,
-        } = replay.values;
-        self.state = replay.state;
-        match done(number, ()) {
-            Err(refusal) => Outcome::Refused { refusal, place },
-            Ok(()) if seen != model => Outcome::Differs { place, seen, model },
-            Ok(()) => Outcome::Agreed,
-        }
+        self.state = replayed.state;
+        Outcome::of(replayed.values)
     }
 }

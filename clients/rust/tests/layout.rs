@@ -8,6 +8,10 @@ fn four(n: u8) -> u32 {
     u32::from_ne_bytes([n; 4])
 }
 
+fn eight(n: u8) -> usize {
+    usize::from_ne_bytes([n; 8])
+}
+
 fn state() -> State {
     State {
         registers: Registers {
@@ -60,6 +64,15 @@ fn state() -> State {
             hold: 32,
             idle: four(33),
         },
+    }
+}
+
+fn values() -> Values {
+    Values {
+        number: 100,
+        seen: 101,
+        model: 108,
+        place: eight(109),
     }
 }
 
@@ -116,14 +129,19 @@ fn fields_lie_as_in_the_specimens() {
         }
     );
     assert_eq!(
-        uart_specimen_replay(),
-        Replay {
-            values: Values {
-                number: 100,
-                seen: 101,
-                model: 108,
-                place: usize::from_ne_bytes([109; 8])
-            },
+        uart_specimen_replayed(),
+        Replayed {
+            values: values(),
+            state: state()
+        }
+    );
+    assert_eq!(
+        uart_specimen_progress(),
+        Progress {
+            version: four(110),
+            stopped: 111,
+            done: eight(112),
+            values: values(),
             state: state()
         }
     );
@@ -137,7 +155,16 @@ fn sizes_are_the_librarys() {
     assert_eq!(uart_size_of_forecasted() as usize, size_of::<Forecasted>());
     assert_eq!(uart_size_of_leveled() as usize, size_of::<Leveled>());
     assert_eq!(uart_size_of_ran() as usize, size_of::<Ran>());
-    assert_eq!(uart_size_of_replay() as usize, size_of::<Replay>());
+    assert_eq!(uart_size_of_replayed() as usize, size_of::<Replayed>());
+    assert_eq!(uart_size_of_progress() as usize, size_of::<Progress>());
+}
+
+#[test]
+fn the_version_is_the_crates() {
+    let v = uart_version();
+    let version = format!("{}.{}.{}", v.major, v.minor, v.patch);
+    assert_eq!(version, env!("CARGO_PKG_VERSION"));
+    assert_eq!(v.layout, LAYOUT);
 }
 
 #[test]

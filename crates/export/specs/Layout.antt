@@ -1,5 +1,8 @@
--- A specimen of each struct: every byte of a field is the field's number.
-use Prim.Native.Nat.{ℕ, _*_}
+-- The size of each struct by C's rules, and a specimen of each: every byte of a field is the field's number.
+use Prim.Native.Nat.{ℕ, _+_, _-_, _*_, _/_}
+use mathlib.Core.Bool.{cond}
+use mathlib.Core.List.{List, [], _∷_}
+use lib.Dec.{ltb}
 use lib.ListN.{replicate}
 use Rattle.device.specs.declared.State.{State}
 use Rattle.device.specs.declared.Outputs.{Outputs}
@@ -8,7 +11,113 @@ use Rattle.device.specs.declared.Looked.{Looked}
 use Rattle.device.specs.declared.Forecasted.{Forecasted}
 use Rattle.device.specs.declared.Leveled.{Leveled}
 use Rattle.device.specs.declared.Ran.{Ran}
+use Rattle.capture.specs.declared.Values.{Values}
 use Rattle.export.specs.declared.Replay.{Replay}
+use Rattle.export.specs.declared.file.Progress.{Progress}
+
+-- The bytes that a value takes, and what its place is a multiple of.
+pub record Shape : Type 0 where
+  pub size : ℕ
+  pub align : ℕ
+
+-- a number of so many bytes
+abbrev pub number : ℕ → Shape
+number bytes = record { size = bytes; align = bytes }
+
+abbrev pub byte : Shape
+byte = number 1
+
+abbrev pub word : Shape
+word = number 4
+
+abbrev pub index : Shape
+index = number 8
+
+-- an array of so many
+abbrev pub times : ℕ → Shape → Shape
+times n s = record { size = n * s .size; align = s .align }
+
+-- the next multiple of a that is not below n
+abbrev pub upTo : ℕ → ℕ → ℕ
+upTo a n = (n + a - 1) / a * a
+
+abbrev pub larger : ℕ → ℕ → ℕ
+larger m n = cond (ltb m n) n m
+
+-- a struct's fields after those so far: each at the next multiple of its alignment
+abbrev pub fieldsAfter : Shape → List Shape → Shape
+fieldsAfter s [] = s
+fieldsAfter s (f ∷ fs) =
+    fieldsAfter (record { size = upTo (f .align) (s .size) + f .size; align = larger (s .align) (f .align) }) fs
+
+-- a struct of these fields: as long as a multiple of its largest alignment
+abbrev pub structOf : List Shape → Shape
+structOf fs =
+    let s = fieldsAfter (record { size = 0; align = 1 }) fs in record { size = upTo (s .align) (s .size); align = s .align }
+
+abbrev pub registersShape : Shape
+registersShape = structOf (byte ∷ byte ∷ byte ∷ byte ∷ [])
+
+abbrev pub baudShape : Shape
+baudShape = structOf (word ∷ word ∷ [])
+
+abbrev pub fifoShape : Shape
+fifoShape = structOf (byte ∷ byte ∷ byte ∷ byte ∷ [])
+
+abbrev pub inputsShape : Shape
+inputsShape = structOf (byte ∷ byte ∷ [])
+
+abbrev pub bytesShape : Shape
+bytesShape = structOf (times 64 byte ∷ word ∷ [])
+
+abbrev pub frameShape : Shape
+frameShape = structOf (word ∷ byte ∷ byte ∷ [])
+
+abbrev pub entryShape : Shape
+entryShape = structOf (byte ∷ byte ∷ byte ∷ byte ∷ [])
+
+abbrev pub entriesShape : Shape
+entriesShape = structOf (times 64 entryShape ∷ word ∷ [])
+
+abbrev pub receiverShape : Shape
+receiverShape = structOf (byte ∷ byte ∷ byte ∷ byte ∷ word ∷ [])
+
+abbrev pub latchesShape : Shape
+latchesShape = structOf (byte ∷ byte ∷ byte ∷ byte ∷ byte ∷ word ∷ [])
+
+abbrev pub stateShape : Shape
+stateShape =
+    structOf
+    (registersShape ∷ baudShape ∷ fifoShape ∷ inputsShape ∷ bytesShape ∷ frameShape ∷ entriesShape ∷ receiverShape ∷ latchesShape ∷ [])
+
+abbrev pub outputsShape : Shape
+outputsShape = structOf (byte ∷ byte ∷ byte ∷ byte ∷ byte ∷ byte ∷ [])
+
+abbrev pub answerShape : Shape
+answerShape = structOf (byte ∷ byte ∷ outputsShape ∷ stateShape ∷ [])
+
+abbrev pub lookedShape : Shape
+lookedShape = structOf (byte ∷ outputsShape ∷ [])
+
+abbrev pub forecastedShape : Shape
+forecastedShape = structOf (byte ∷ word ∷ [])
+
+abbrev pub leveledShape : Shape
+leveledShape = structOf (byte ∷ byte ∷ [])
+
+abbrev pub ranShape : Shape
+ranShape = structOf (byte ∷ word ∷ stateShape ∷ [])
+
+abbrev pub valuesShape : Shape
+valuesShape = structOf (byte ∷ byte ∷ byte ∷ index ∷ [])
+
+abbrev pub replayedShape : Shape
+replayedShape = structOf (valuesShape ∷ stateShape ∷ [])
+
+abbrev pub progressShape : Shape
+progressShape = structOf (word ∷ byte ∷ index ∷ valuesShape ∷ stateShape ∷ [])
+
+-- The specimens.
 
 -- the number in each of four bytes
 abbrev pub fourTimes : ℕ → ℕ
@@ -53,6 +162,12 @@ answerSpecimen = record { number = 100; byte = 101; outputs = outputsSpecimen; s
 abbrev pub ranSpecimen : Ran
 ranSpecimen = record { number = 100; used = fourTimes 101; state = stateSpecimen }
 
-abbrev pub replaySpecimen : Replay
-replaySpecimen =
-    record { values = record { number = 100; seen = 101; model = 108; place = eightTimes 109 }; state = stateSpecimen }
+abbrev pub valuesSpecimen : Values
+valuesSpecimen = record { number = 100; seen = 101; model = 108; place = eightTimes 109 }
+
+abbrev pub replayedSpecimen : Replay
+replayedSpecimen = record { values = valuesSpecimen; state = stateSpecimen }
+
+abbrev pub progressSpecimen : Progress
+progressSpecimen =
+    record { version = fourTimes 110; stopped = 111; done = eightTimes 112; values = valuesSpecimen; state = stateSpecimen }

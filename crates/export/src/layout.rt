@@ -1,12 +1,14 @@
 // The layout of the structs, as this library has it, for a client to hold its own declarations
 // against: the size of each struct, and a specimen of each in which every byte of a field is the
-// field's number. The place of each field stands in the specimen's bytes.
+// field's number. The place of each field stands in the specimen's bytes. The language has no call
+// for a size: the definitions count each up from its fields by C's rules.
 //
 // The state's fields are numbered from 1 in the order of declaration, those of the answers from 100:
 // the number answered is field 100; the byte, the ticks, the level, the ticks used and a replay's byte
 // seen are field 101; the output pins are fields 102..107; a replay's byte of the model is field 108,
-// its place field 109.
+// its place field 109; a file's version, what stopped it and the records done are fields 110..112.
 use crate::Replay;
+use crate::file::Progress;
 use capture::Values;
 use device::Answer;
 use device::Baud;
@@ -26,56 +28,64 @@ use queue::ByteQueue;
 use queue::Entry;
 use queue::EntryQueue;
 ghost use mathlib.Core.Path.{_≡_};
-ghost use Rattle.export.specs.Layout.{stateSpecimen, answerSpecimen, lookedSpecimen, forecastedSpecimen, leveledSpecimen, ranSpecimen, replaySpecimen};
+ghost use Rattle.export.specs.Layout.{stateShape, answerShape, lookedShape, forecastedShape, leveledShape, ranShape, replayedShape, progressShape};
+ghost use Rattle.export.specs.Layout.{stateSpecimen, answerSpecimen, lookedSpecimen, forecastedSpecimen, leveledSpecimen, ranSpecimen, valuesSpecimen, replayedSpecimen, progressSpecimen};
 
-// The sizes in bytes: of the state, of the answers without one, and of those with it.
+// The sizes in bytes.
 #[no_mangle]
 pub extern "C" fn uart_size_of_state() -> u32
-    ensures { λ r. ⌜ r ≡ 376 ⌝ }
+    ensures { λ r. ⌜ r ≡ stateShape .size ⌝ }
 {
     376
 }
 
 #[no_mangle]
+pub extern "C" fn uart_size_of_answer() -> u32
+    ensures { λ r. ⌜ r ≡ answerShape .size ⌝ }
+{
+    384
+}
+
+#[no_mangle]
 pub extern "C" fn uart_size_of_looked() -> u32
-    ensures { λ r. ⌜ r ≡ 7 ⌝ }
+    ensures { λ r. ⌜ r ≡ lookedShape .size ⌝ }
 {
     7
 }
 
 #[no_mangle]
 pub extern "C" fn uart_size_of_forecasted() -> u32
-    ensures { λ r. ⌜ r ≡ 8 ⌝ }
+    ensures { λ r. ⌜ r ≡ forecastedShape .size ⌝ }
 {
     8
 }
 
 #[no_mangle]
 pub extern "C" fn uart_size_of_leveled() -> u32
-    ensures { λ r. ⌜ r ≡ 2 ⌝ }
+    ensures { λ r. ⌜ r ≡ leveledShape .size ⌝ }
 {
     2
 }
 
 #[no_mangle]
-pub extern "C" fn uart_size_of_answer() -> u32
-    ensures { λ r. ⌜ r ≡ 384 ⌝ }
-{
-    uart_size_of_state() + 8
-}
-
-#[no_mangle]
 pub extern "C" fn uart_size_of_ran() -> u32
-    ensures { λ r. ⌜ r ≡ 384 ⌝ }
+    ensures { λ r. ⌜ r ≡ ranShape .size ⌝ }
 {
-    uart_size_of_state() + 8
+    384
 }
 
 #[no_mangle]
-pub extern "C" fn uart_size_of_replay() -> u32
-    ensures { λ r. ⌜ r ≡ 392 ⌝ }
+pub extern "C" fn uart_size_of_replayed() -> u32
+    ensures { λ r. ⌜ r ≡ replayedShape .size ⌝ }
 {
-    uart_size_of_state() + 16
+    392
+}
+
+#[no_mangle]
+pub extern "C" fn uart_size_of_progress() -> u32
+    ensures { λ r. ⌜ r ≡ progressShape .size ⌝ }
+{
+    408
 }
 
 // The state: fields 1..33.
@@ -200,17 +210,36 @@ pub extern "C" fn uart_specimen_ran() -> Ran
     }
 }
 
+fn specimen_values() -> Values
+    ensures { λ r. ⌜ r ≡ valuesSpecimen ⌝ }
+{
+    Values {
+        number: 100,
+        seen: 101,
+        model: 108,
+        place: 0x6d6d6d6d6d6d6d6d,
+    }
+}
+
 #[no_mangle]
-pub extern "C" fn uart_specimen_replay() -> Replay
-    ensures { λ r. ⌜ r ≡ replaySpecimen ⌝ }
+pub extern "C" fn uart_specimen_replayed() -> Replay
+    ensures { λ r. ⌜ r ≡ replayedSpecimen ⌝ }
 {
     Replay {
-        values: Values {
-            number: 100,
-            seen: 101,
-            model: 108,
-            place: 0x6d6d6d6d6d6d6d6d,
-        },
+        values: specimen_values(),
+        state: uart_specimen_state(),
+    }
+}
+
+#[no_mangle]
+pub extern "C" fn uart_specimen_progress() -> Progress
+    ensures { λ r. ⌜ r ≡ progressSpecimen ⌝ }
+{
+    Progress {
+        version: 0x6e6e6e6e,
+        stopped: 111,
+        done: 0x7070707070707070,
+        values: specimen_values(),
         state: uart_specimen_state(),
     }
 }

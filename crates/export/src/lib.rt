@@ -1,9 +1,11 @@
 // The calls for programs in C, Rust and other languages, under plain names: `rt staticlib export`
 // makes the library that they link. The structs go by value, a run of records as its address and
 // length, and each call has the contract of the call of `uart` or `capture` that it hands on.
-// clients/uart.h declares the same for C.
+// clients/tl16c750.h declares the same for C.
+pub mod file;
 pub mod layout;
 
+use capture::Replayed;
 use capture::Values;
 use device::Answer;
 use device::Forecasted;
@@ -25,6 +27,28 @@ ghost use Rattle.export.specs.Replay.{replayAnswer};
 pub struct Replay {
     pub values: Values,
     pub state: State,
+}
+
+// The version of the library, and of the layout of its structs: this one changes where a struct does.
+#[repr(C)]
+pub struct Versions {
+    pub major: u32,
+    pub minor: u32,
+    pub patch: u32,
+    pub layout: u32,
+}
+
+// Which library this is: 0.2.0, with the first layout that is numbered.
+#[no_mangle]
+pub extern "C" fn uart_version() -> Versions
+    ensures { λ r. ⌜ r ≡ record { major = 0; minor = 2; patch = 0; layout = 1 } ⌝ }
+{
+    Versions {
+        major: 0,
+        minor: 2,
+        patch: 0,
+        layout: 1,
+    }
 }
 
 // The fresh state.
@@ -127,15 +151,23 @@ pub extern "C" fn uart_level(s: State, t: u32) -> Leveled
     foretell::level(s, t)
 }
 
+// A replay's outcome as a client has it.
+fn answered(r: Replayed) -> Replay
+    ensures { λ a. ⌜ a ≡ replayAnswer r ⌝ }
+{
+    let outcome = r.outcome;
+    let state = r.state;
+    Replay {
+        values: capture::values_of(outcome),
+        state,
+    }
+}
+
 // A replay of records of a version: number 0 and both bytes the same where it agreed.
 #[no_mangle]
 pub extern "C" fn uart_replay(s: State, version: u32, records: &[u32]) -> Replay
     ensures outcome { λ r. ⌜ r ≡ replayAnswer (replayOf version s (now (records .entry))) ⌝ }
     ensures agreed { λ r. ⌜ (r .values .number ≡ 0 → r .values .seen ≡ r .values .model → Agrees s (now (records .entry)) (r .state)) ⌝ }
 {
-    let a = capture::replay(s, version, records);
-    let outcome = a.outcome;
-    let values = capture::values_of(outcome);
-    let state = a.state;
-    Replay { values, state }
+    answered(capture::replay(s, version, records))
 }

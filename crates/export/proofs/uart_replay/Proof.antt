@@ -1,4 +1,4 @@
--- The outcome's values and the state are those of the replay; from the values follows whether it agreed.
+-- The answer is that of the replay; from its values follows whether it agreed.
 use Rattle.export.proofs.Agreed.{Says, values-say}
 use Rattle.export.specs.Replay.{replayAnswer}
 use mathlib.Core.Path.{ap}
@@ -9,14 +9,14 @@ use Rattle.export.proofs.uart_replay.Tie as tie
 replay-requires : tie.Need-replay-requires
 replay-requires c κs = search needs
 
-values-of-requires : tie.Need-values-of-requires
-values-of-requires c κs = search needs
+answered-requires : tie.Need-answered-requires
+answered-requires c κs = search needs
 
 returns : tie.Need-returns
 returns c =
-    let replayed = c .before .before .replay .ensures in
-    let says : Says (c .before .before .replay .result .outcome) = rw (replayed .0) (values-say _ _ _) in
-    rw (c .before .values-of .ensures) (ap replayAnswer (replayed .0), λ z e. replayed .1 (says z e))
+    let replayed = c .before .replay .ensures in
+    let says : Says (c .before .replay .result .outcome) = rw (replayed .0) (values-say _ _ _) in
+    rw (c .answered .ensures) (ap replayAnswer (replayed .0), λ z e. replayed .1 (says z e))
 
 pub uart-replay-spec : {M : Type 1} → statement M
-uart-replay-spec = tie.close (tie.spec replay-requires values-of-requires returns)
+uart-replay-spec = tie.close (tie.spec replay-requires answered-requires returns)

@@ -7,24 +7,38 @@
  *
  * Every field is an unsigned number, so every bit pattern of a state is a value: it is well formed
  * or it is refused with UART_MALFORMED. So whatever memory a caller hands in, every call ends and
- * answers by number; no caller has to look first. Only the records of a replay are lent, by address:
- * as many words as it says must stand there, whatever they are. Bytes between fields are not looked
- * at, and come back as anything.
+ * answers by number; no caller has to look first. Only the records and bytes of a replay are lent, by
+ * address: as many as it says must stand there, whatever they are.
  *
- * Link with target/staticlib/libexport.a, made by `rt staticlib export`.
+ * Padding, the bytes between fields, is no part of a state: it is not looked at and comes back as
+ * anything. So states are compared by uart_equal, not by memcmp, and a hash goes over the fields.
+ *
+ * Link with -ltl16c750 (`pkg-config --cflags --libs tl16c750`).
  */
-#ifndef UART_H
-#define UART_H
+#ifndef TL16C750_H
+#define TL16C750_H
 
 #include <stddef.h>
 #include <stdint.h>
+#include <string.h>
+#ifndef UART_NO_STDIO
+#include <stdio.h>
+#endif
 
 #ifdef __cplusplus
 extern "C" {
 #define UART_STATIC_ASSERT static_assert
-#else
+#elif defined __STDC_VERSION__ && __STDC_VERSION__ >= 201112L
 #define UART_STATIC_ASSERT _Static_assert
+#else
+#define UART_STATIC_ASSERT(holds, what) extern char uart_static_assert[(holds) ? 1 : -1]
 #endif
+
+/* The version that this header is of; UART_LAYOUT changes where a struct does. */
+#define UART_VERSION_MAJOR 0
+#define UART_VERSION_MINOR 2
+#define UART_VERSION_PATCH 0
+#define UART_LAYOUT 1
 
 /* The numbers answered; where two apply, the lower. */
 #define UART_DONE 0
@@ -33,9 +47,9 @@ extern "C" {
 #define UART_BAD_LEVEL 3       /* SIN above 1, or modem pins above 15 */
 #define UART_NO_CLOCK 4        /* forecast, level: work left and divisor 0 */
 #define UART_HELD_BACK 5       /* forecast, level: bytes queued and held by flow control */
-#define UART_BAD_HEADER 6      /* of a file alone: only the program `replay` answers it */
+#define UART_BAD_HEADER 6      /* replay of a file: a bad mark or a nonzero pad */
 #define UART_UNKNOWN_VERSION 7 /* replay: an unknown version */
-#define UART_BAD_RECORD 8      /* replay: a record of bad kind or with stray bits */
+#define UART_BAD_RECORD 8      /* replay: a record of bad kind, with stray bits, or cut off */
 
 /* Register addresses. With LCR bit 7 set, 0 and 1 are the divisor's low and high byte. */
 #define UART_RBR 0 /* read: receive buffer */
@@ -191,10 +205,35 @@ struct uart_values {
 };
 
 /* What a replay answers: how it ended, and the state in which it did. */
-struct uart_replay {
+struct uart_replayed {
     struct uart_values values;
     struct uart_state state;
 };
+
+/* What stopped the replay of a file. */
+#define UART_GOING_ON 0
+#define UART_DIFFERS 1
+#define UART_REFUSED 2
+
+/* Where a file stands: its version, what stopped it and how, the records done, the state. */
+struct uart_progress {
+    uint32_t version;
+    uint8_t stopped;
+    size_t done;
+    struct uart_values values;
+    struct uart_state state;
+};
+
+/* The library's version, and that of the layout of its structs. */
+struct uart_versions {
+    uint32_t major;
+    uint32_t minor;
+    uint32_t patch;
+    uint32_t layout;
+};
+
+/* Which library is linked: its layout must be UART_LAYOUT. */
+struct uart_versions uart_version(void);
 
 /* The fresh state. */
 struct uart_state uart_fresh(void);
@@ -229,15 +268,89 @@ struct uart_ran uart_run(struct uart_state s, uint32_t n);
  * (address in 8..10, byte seen in 0..7), 2 write (the same fields), 3 SIN (bit 0), 4 modem pins (bits
  * 0..3), 5 reset; all other bits are zero.
  */
-struct uart_replay uart_replay(struct uart_state s, uint32_t version, const uint32_t *records,
-                               size_t count);
+struct uart_replayed uart_replay(struct uart_state s, uint32_t version, const uint32_t *records,
+                                 size_t count);
+
+/*
+ * A capture's file, whose bytes come in parts, replayed from the fresh state: uart_replay_begin takes
+ * the 8 bytes of its header (or all of a file that is shorter), uart_replay_more the bytes that come
+ * next, uart_replay_end the last ones, or none. One to three bytes at the end of a part that make no
+ * whole record are given again at the start of the next part. The answer is that of the whole file,
+ * whatever its parts are; it ends as a replay does, and beside that with
+ *   UART_BAD_RECORD at place 0: shorter than a header; UART_BAD_HEADER at place 0;
+ *   UART_BAD_RECORD at the number of whole records: one to three bytes are left.
+ * Once `stopped` is not UART_GOING_ON, nothing that comes next changes the answer. A file of more than
+ * 2^62 records is refused with UART_MALFORMED.
+ */
+struct uart_progress uart_replay_begin(const uint8_t *header, size_t count);
+struct uart_progress uart_replay_more(struct uart_progress p, const uint8_t *bytes, size_t count);
+struct uart_replayed uart_replay_end(struct uart_progress p, const uint8_t *bytes, size_t count);
+
+#define UART_HEADER_BYTES 8
+
+/* Replays a capture's file that is in memory. */
+static inline struct uart_replayed uart_replay_bytes(const uint8_t *bytes, size_t count)
+{
+    size_t header = count < UART_HEADER_BYTES ? count : UART_HEADER_BYTES;
+
+    return uart_replay_end(uart_replay_begin(bytes, header), bytes + header, count - header);
+}
+
+#ifndef UART_NO_STDIO
+/* Told now and then: the records done, the bytes read, and of how many (0 where that is not known). */
+typedef void uart_progress_call(void *context, size_t records, size_t bytes, size_t of);
+
+/* The bytes from where a file stands to its end; 0 where it has no end to be told, as a pipe. */
+static inline size_t uart_bytes_left(FILE *file)
+{
+    long at = ftell(file);
+    long end;
+
+    if (at < 0 || fseek(file, 0, SEEK_END) != 0)
+        return 0;
+    end = ftell(file);
+    return fseek(file, at, SEEK_SET) == 0 && at <= end ? (size_t)(end - at) : 0;
+}
+
+/*
+ * Replays a capture's file from where it stands, with 16 KiB of memory whatever its length. `call` may
+ * be NULL. Answers 0, or -1 where reading failed: then nothing is answered.
+ */
+static inline int uart_replay_file(FILE *file, struct uart_replayed *answer, uart_progress_call *call,
+                                   void *context)
+{
+    uint8_t part[16384];
+    size_t of = call ? uart_bytes_left(file) : 0;
+    size_t got = fread(part, 1, UART_HEADER_BYTES, file);
+    size_t bytes = got;
+    struct uart_progress p = uart_replay_begin(part, got);
+
+    got = 0;
+    while (p.stopped == UART_GOING_ON) {
+        got = fread(part, 1, sizeof part, file);
+        bytes += got;
+        if (got < sizeof part)
+            break;
+        p = uart_replay_more(p, part, got);
+        got = 0;
+        if (call)
+            call(context, p.done, bytes, of);
+    }
+    if (ferror(file))
+        return -1;
+    *answer = uart_replay_end(p, part, got);
+    if (call)
+        call(context, p.done + got / 4, bytes, of);
+    return 0;
+}
+#endif
 
 /*
  * The library's own layout: the size of each struct, and a specimen of each in which every byte of
  * a field is the field's number. The state's fields are numbered from 1 in the order above
  * (UART_STATE_FIELDS; an entry's are 18..21). The answers' own fields are numbered from 100: the
  * number answered is 100, the field after it 101, the output pins 102..107, the model's byte and the
- * place of a replay 108 and 109.
+ * place of a replay 108 and 109, a file's version, what stopped it and the records done 110..112.
  */
 uint32_t uart_size_of_state(void);
 uint32_t uart_size_of_answer(void);
@@ -245,14 +358,16 @@ uint32_t uart_size_of_looked(void);
 uint32_t uart_size_of_forecasted(void);
 uint32_t uart_size_of_leveled(void);
 uint32_t uart_size_of_ran(void);
-uint32_t uart_size_of_replay(void);
+uint32_t uart_size_of_replayed(void);
+uint32_t uart_size_of_progress(void);
 struct uart_state uart_specimen_state(void);
 struct uart_answer uart_specimen_answer(void);
 struct uart_looked uart_specimen_looked(void);
 struct uart_forecasted uart_specimen_forecasted(void);
 struct uart_leveled uart_specimen_leveled(void);
 struct uart_ran uart_specimen_ran(void);
-struct uart_replay uart_specimen_replay(void);
+struct uart_replayed uart_specimen_replayed(void);
+struct uart_progress uart_specimen_progress(void);
 
 #define UART_AT(type, field, place) \
     UART_STATIC_ASSERT(offsetof(struct type, field) == (place), #type "." #field)
@@ -329,12 +444,27 @@ UART_AT(uart_ran, number, 0);
 UART_AT(uart_ran, used, 4);
 UART_AT(uart_ran, state, 8);
 
-UART_STATIC_ASSERT(sizeof(struct uart_replay) == 392, "uart_replay");
-UART_AT(uart_replay, values.number, 0);
-UART_AT(uart_replay, values.seen, 1);
-UART_AT(uart_replay, values.model, 2);
-UART_AT(uart_replay, values.place, 8);
-UART_AT(uart_replay, state, 16);
+UART_STATIC_ASSERT(sizeof(struct uart_replayed) == 392, "uart_replayed");
+UART_AT(uart_replayed, values.number, 0);
+UART_AT(uart_replayed, values.seen, 1);
+UART_AT(uart_replayed, values.model, 2);
+UART_AT(uart_replayed, values.place, 8);
+UART_AT(uart_replayed, state, 16);
+
+UART_STATIC_ASSERT(sizeof(struct uart_progress) == 408, "uart_progress");
+UART_AT(uart_progress, version, 0);
+UART_AT(uart_progress, stopped, 4);
+UART_AT(uart_progress, done, 8);
+UART_AT(uart_progress, values, 16);
+UART_AT(uart_progress, state, 32);
+
+#define UART_SAME(field, place, number) memcmp(&a->field, &b->field, sizeof a->field) == 0 &&
+
+/* Whether two states are the same, field by field. */
+static inline int uart_equal(const struct uart_state *a, const struct uart_state *b)
+{
+    return UART_STATE_FIELDS(UART_SAME) memcmp(&a->rx.entries, &b->rx.entries, sizeof a->rx.entries) == 0;
+}
 
 #ifdef __cplusplus
 }

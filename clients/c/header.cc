@@ -1,0 +1,32 @@
+// The header in C++: a call of each kind, and the file calls.
+#include "tl16c750.h"
+
+#include <cstdint>
+#include <cstdio>
+#include <cstdlib>
+
+static void count_calls(void *context, std::size_t, std::size_t, std::size_t)
+{
+    ++*static_cast<int *>(context);
+}
+
+int main()
+{
+    const std::uint8_t capture[] = {'U', 'T', 'R', 0, 1, 0, 0, 0, 0x60, 5, 0, 0x10};
+    uart_state fresh = uart_fresh();
+    uart_replayed answer = uart_replay_bytes(capture, sizeof capture);
+    std::FILE *file = std::tmpfile();
+    int calls = 0;
+
+    if (file == nullptr || std::fwrite(capture, 1, sizeof capture, file) != sizeof capture)
+        return EXIT_FAILURE;
+    std::rewind(file);
+    if (uart_replay_file(file, &answer, count_calls, &calls) != 0 || calls != 1)
+        return EXIT_FAILURE;
+    std::fclose(file);
+    return answer.values.number == UART_DONE && answer.values.seen == answer.values.model &&
+                   uart_equal(&answer.state, &fresh) && uart_read(fresh, UART_LSR).byte == 0x60 &&
+                   uart_version().layout == UART_LAYOUT
+               ? EXIT_SUCCESS
+               : EXIT_FAILURE;
+}

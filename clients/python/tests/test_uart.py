@@ -1,0 +1,223 @@
+"""States and UARTs as values, refusals, and what the package says of itself."""
+import concurrent.futures
+import copy
+import doctest
+import inspect
+import pickle
+import random
+import subprocess
+import sys
+import typing
+import unittest
+from pathlib import Path
+
+import tl16c750
+from tl16c750 import LCR, MALFORMED, THR, Entry, Refused, State, Uart, library, structs, uart
+
+TOP = Path(__file__).resolve().parents[3]
+CALLS = TOP / "target" / "bin" / "calls"
+
+
+def busy():
+    """A UART with something in every part."""
+    u = Uart()
+    u.write(LCR, 0x80)
+    u.write(0, 1)
+    u.write(LCR, 0x1B)
+    u.write(2, 0x21)
+    for byte in b"HELLO":
+        u.write(THR, byte)
+    u.sin = 0
+    u.tick(2000)
+    u.sin = 1
+    u.tick(40)
+    return u
+
+
+def fail(number):
+    raise Refused(number, 3)
+
+
+def answers(lines):
+    """What the program `calls` writes."""
+    text = "".join(line + "\n" for line in lines)
+    run = subprocess.run([CALLS], input=text, capture_output=True, text=True, check=True)
+    return run.stdout.split("\n")[:-1]
+
+
+class Values(unittest.TestCase):
+    def test_compared_by_fields(self):
+        a, b = Uart(), Uart()
+        raw = memoryview(b.state).cast("B")
+        for place in (18, 19, 94, 95, 369, 370, 371):
+            raw[place] ^= 0xFF
+        self.assertEqual(a, b)
+        self.assertEqual(a.state, b.state)
+        b.state.latches.idle = 1
+        self.assertNotEqual(a, b)
+        self.assertNotEqual(a.state, 5)
+        self.assertNotEqual(a, a.state)
+
+    def test_copies_are_apart(self):
+        u = busy()
+        for other in (u.copy(), copy.copy(u), copy.deepcopy(u), Uart(u.state), pickle.loads(pickle.dumps(u))):
+            self.assertEqual(u, other)
+            other.state.tx.bytes[0] ^= 1
+            self.assertNotEqual(u, other)
+        state = u.state.copy()
+        u.state.registers.scr = 9
+        self.assertNotEqual(u.state, state)
+        self.assertEqual(pickle.loads(pickle.dumps(state)), state)
+
+    def test_printed_as_they_are_made(self):
+        u = busy()
+        u.state.rx.entries[0] = Entry(byte=0x41, fe=1)
+        self.assertEqual(eval(repr(u), vars(tl16c750)), u)
+
+    def test_assignments_are_checked(self):
+        u = Uart()
+        for assign, error in (
+            (lambda: setattr(u.state.registers, "ier", 256), ValueError),
+            (lambda: setattr(u.state.registers, "ier", -1), ValueError),
+            (lambda: setattr(u.state.baud, "divisor", 1 << 32), ValueError),
+            (lambda: setattr(u.state.registers, "ier", 1.0), TypeError),
+            (lambda: setattr(u.state.registers, "lsr", 1), AttributeError),
+            (lambda: setattr(u.state, "registers", 1), TypeError),
+            (lambda: u.state.tx.bytes.__setitem__(0, 256), ValueError),
+            (lambda: u.state.tx.bytes.__setitem__(slice(0, 2), [1, 256]), ValueError),
+            (lambda: setattr(u.state.tx, "bytes", [300]), ValueError),
+            (lambda: setattr(u.state.rx.entries[0], "pe", 256), ValueError),
+            (lambda: Entry(byte=256), ValueError),
+            (lambda: setattr(u, "registers", 1), AttributeError),
+            (lambda: setattr(u, "state", 1), TypeError),
+            (lambda: Uart(5), TypeError),
+            (lambda: u.write(LCR, 256), ValueError),
+            (lambda: u.read("LSR"), TypeError),
+            (lambda: setattr(u, "sin", 2), Refused),
+        ):
+            with self.subTest(inspect.getsource(assign).strip()):
+                self.assertRaises(error, assign)
+        self.assertEqual(u, Uart())
+
+    def test_refusals_survive(self):
+        refusal = pickle.loads(pickle.dumps(Refused(8, 5)))
+        self.assertEqual((refusal.number, refusal.place), (8, 5))
+        self.assertIn("number 99", str(Refused(99)))
+        with concurrent.futures.ProcessPoolExecutor(1) as pool:
+            with self.assertRaises(Refused) as refused:
+                pool.submit(fail, 7).result(60)
+        self.assertEqual((refused.exception.number, refused.exception.place), (7, 3))
+
+
+class Numbers(unittest.TestCase):
+    """The numbers of the text protocol, held against the program `calls`."""
+
+    def draw(self):
+        """A state with another number in every place."""
+        numbers = [random.randrange(256) for _ in range(348)]
+        for place in (5, 6, 13, 78, 81, 339, 346):
+            numbers[place - 1] = random.randrange(1 << 32)
+        return numbers
+
+    def test_there_and_back(self):
+        for _ in range(20):
+            numbers = self.draw()
+            self.assertEqual(State.from_numbers(numbers).numbers(), numbers)
+            self.assertEqual(Uart.from_numbers(numbers).numbers(), numbers)
+
+    def test_as_calls_has_them(self):
+        u = busy()
+        load = "load " + " ".join(map(str, u.numbers()))
+        lines = answers([load, "state", "write 0 90", "ticks 700", "sin 0", "ticks 300", "state"])
+        self.assertEqual([int(n) for n in lines[1].split()], u.numbers())
+        u.write(THR, 90)
+        u.tick(700)
+        u.sin = 0
+        u.tick(300)
+        self.assertEqual([int(n) for n in lines[-1].split()], u.numbers())
+
+    def test_each_in_its_place(self):
+        given = Uart().numbers()
+        scr, idle = given[:], given[:]
+        scr[3] = 77
+        idle[345] = 5
+        self.assertEqual(State.from_numbers(scr).registers.scr, 77)
+        self.assertEqual(State.from_numbers(idle).latches.idle, 5)
+        self.assertEqual(answers(["fresh", "state"])[1].split(), [str(n) for n in given])
+
+    def test_what_does_not_fit_is_told(self):
+        given = Uart().numbers()
+        self.assertRaisesRegex(ValueError, "348 numbers, not 347", State.from_numbers, given[1:])
+        self.assertRaisesRegex(ValueError, "Registers.ier", State.from_numbers, [256] + given[1:])
+
+
+class Said(unittest.TestCase):
+    def test_hints_and_docstrings(self):
+        for module in (structs, library, uart):
+            own = [item for item in vars(module).values() if getattr(item, "__module__", "") == module.__name__]
+            functions = [item for item in own if inspect.isfunction(item)]
+            for kind in filter(inspect.isclass, own):
+                functions += [f for f in vars(kind).values() if inspect.isfunction(f) and f.__module__ == module.__name__]
+                self.assertTrue(kind.__doc__, kind)
+            for function in functions:
+                signature = inspect.signature(function)
+                self.assertIsNot(signature.return_annotation, signature.empty, function)
+                self.assertTrue(function.__name__.startswith("_") or function.__doc__, function)
+
+    def test_the_first_example(self):
+        self.assertEqual(doctest.testmod(tl16c750).failed, 0)
+
+    def test_public_names(self):
+        for name in tl16c750.__all__:
+            self.assertTrue(hasattr(tl16c750, name))
+        self.assertTrue((Path(tl16c750.__file__).parent / "py.typed").exists())
+        self.assertEqual(typing.get_type_hints(Uart.read)["return"], int)
+
+    def test_a_missing_library_is_told(self):
+        environment = {"UART_LIBRARY": "/nowhere/libtl16c750.so", "PYTHONPATH": ":".join(sys.path)}
+        run = subprocess.run(
+            [sys.executable, "-c", "import tl16c750"], env=environment, capture_output=True, text=True
+        )
+        self.assertEqual(run.returncode, 1)
+        self.assertIn("make library", run.stderr)
+        self.assertIn("/nowhere/libtl16c750.so", run.stderr)
+
+
+class Refusals(unittest.TestCase):
+    def test_a_malformed_state(self):
+        u = busy()
+        u.state.rx.count = 65
+        before = u.copy()
+        for call in (u.reset, u.tick, u.forecast, lambda: u.pins, lambda: u.run(5), lambda: u.replay(1, [])):
+            with self.assertRaises(Refused) as refused:
+                call()
+            self.assertEqual(refused.exception.number, MALFORMED)
+        self.assertEqual(u, before)
+
+    def test_pieces_do_not_show(self):
+        n = 3 * uart._TICKS + 5
+        u, v = Uart(), Uart()
+        for each in (u, v):
+            each.write(LCR, 0x80)
+            each.write(1, 255)
+            each.write(LCR, 0x03)
+            each.write(THR, 65)
+        u.tick(n)
+        left = n
+        while left:
+            v.tick(min(left, 1000003))
+            left -= min(left, 1000003)
+        self.assertEqual(u, v)
+        w = Uart()
+        w.write(LCR, 0x80)
+        w.write(1, 255)
+        w.write(LCR, 0x03)
+        w.write(THR, 65)
+        expected = w.forecast()
+        self.assertEqual(w.copy().run(0xFFFFFFFF), expected)
+        self.assertEqual(w.copy().run(1000), 1000)
+        self.assertEqual(Uart().run(5), 0)
+
+
+if __name__ == "__main__":
+    unittest.main()

@@ -1,0 +1,95 @@
+"""One TL16C750 UART with its bus, serial line, modem pins and clock, over the proved library.
+
+    >>> from tl16c750 import LCR, LSR, Uart
+    >>> uart = Uart()
+    >>> pins = uart.write(LCR, 0x03)
+    >>> hex(uart.read(LSR))
+    '0x60'
+    >>> uart.tick(100).sout
+    1
+
+A call that is refused raises Refused, whose number is that of the table in document 01; the state is
+then as it was, or, where a replay meets a bad record, that before it. Ctrl-C stops a long tick, run or
+replay within a second; the state is then as it was before the call.
+"""
+from .structs import (
+    PLACES,
+    Baud,
+    ByteQueue,
+    Entry,
+    EntryQueue,
+    FifoControl,
+    Frame,
+    Inputs,
+    Latches,
+    Outputs,
+    Receiver,
+    Registers,
+    State,
+)
+from .uart import (
+    BAD_ADDRESS,
+    BAD_HEADER,
+    BAD_LEVEL,
+    BAD_RECORD,
+    DLL,
+    DLM,
+    FCR,
+    HELD_BACK,
+    IER,
+    IIR,
+    LCR,
+    LSR,
+    MALFORMED,
+    MCR,
+    MSR,
+    NO_CLOCK,
+    RBR,
+    SCR,
+    THR,
+    UNKNOWN_VERSION,
+    Difference,
+    Refused,
+    Uart,
+    __version__,
+)
+
+__all__ = [
+    "BAD_ADDRESS",
+    "BAD_HEADER",
+    "BAD_LEVEL",
+    "BAD_RECORD",
+    "DLL",
+    "DLM",
+    "FCR",
+    "HELD_BACK",
+    "IER",
+    "IIR",
+    "LCR",
+    "LSR",
+    "MALFORMED",
+    "MCR",
+    "MSR",
+    "NO_CLOCK",
+    "PLACES",
+    "RBR",
+    "SCR",
+    "THR",
+    "UNKNOWN_VERSION",
+    "Baud",
+    "ByteQueue",
+    "Difference",
+    "Entry",
+    "EntryQueue",
+    "FifoControl",
+    "Frame",
+    "Inputs",
+    "Latches",
+    "Outputs",
+    "Receiver",
+    "Refused",
+    "Registers",
+    "State",
+    "Uart",
+    "__version__",
+]

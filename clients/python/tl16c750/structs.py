@@ -1,0 +1,397 @@
+"""The structs of the library, as tl16c750.h has them.
+
+Every field is an unsigned number of 8, 32 or 64 bits, or an array or a struct of such. A number that
+does not fit is refused at the assignment, and so is a name that is no field. Structs are compared,
+printed, copied and pickled by their fields: padding is no part of them.
+"""
+from __future__ import annotations
+
+import ctypes
+import operator
+from typing import Annotated, Any, Callable, ClassVar, Iterable, Iterator, TypeVar, get_type_hints
+
+PLACES = 64
+"""The places of each queue."""
+
+U8 = Annotated[int, ctypes.c_uint8]
+U32 = Annotated[int, ctypes.c_uint32]
+Size = Annotated[int, ctypes.c_size_t]
+
+S = TypeVar("S", bound="Struct")
+
+
+def fits(value: Any, bits: int, what: str) -> int:
+    """The value, where it is a number of so many bits; a TypeError or ValueError names it otherwise."""
+    try:
+        number = operator.index(value)
+    except TypeError:
+        raise TypeError(f"{what} is a number, not {type(value).__name__}") from None
+    if not 0 <= number < 1 << bits:
+        raise ValueError(f"{what} is a number of {bits} bits, not {number}")
+    return number
+
+
+def _field_spans(kind: Any, start: int = 0) -> Iterator[tuple[int, int]]:
+    """Where the bytes of a type's fields stand, without its padding."""
+    if issubclass(kind, ctypes.Array):
+        for place in range(kind._length_):
+            yield from _field_spans(kind._type_, start + place * ctypes.sizeof(kind._type_))
+    elif issubclass(kind, ctypes.Structure):
+        for name, field in kind._fields_:
+            yield from _field_spans(field, start + getattr(kind, name).offset)
+    else:
+        yield start, start + ctypes.sizeof(kind)
+
+
+def _joined(spans: Iterable[tuple[int, int]]) -> tuple[tuple[int, int], ...]:
+    """The same, with those that touch made one."""
+    joined: list[tuple[int, int]] = []
+    for start, end in spans:
+        if joined and joined[-1][1] == start:
+            start = joined.pop()[0]
+        joined.append((start, end))
+    return tuple(joined)
+
+
+def _rebuilt(kind: type[S], image: bytes) -> S:
+    """The struct whose fields have these bytes."""
+    if len(image) != sum(end - start for start, end in kind._spans):
+        raise ValueError(f"these bytes are of another layout of {kind.__name__}")
+    value = kind()
+    raw = memoryview(value).cast("B")
+    for start, end in kind._spans:
+        raw[start:end], image = image[: end - start], image[end - start :]
+    return value
+
+
+class Struct(ctypes.Structure):
+    """Unsigned numbers under names."""
+
+    _kinds: ClassVar[dict[str, Any]] = {}
+    _spans: ClassVar[tuple[tuple[int, int], ...]] = ()
+
+    def __setattr__(self, name: str, value: Any) -> None:
+        kind = self._kinds.get(name)
+        if kind is None:
+            raise AttributeError(f"{type(self).__name__} has no field {name!r}")
+        if issubclass(kind, ctypes.Array) and not isinstance(value, kind):
+            value = kind(*value)
+        elif not issubclass(kind, (ctypes.Array, ctypes.Structure)):
+            value = fits(value, 8 * ctypes.sizeof(kind), f"{type(self).__name__}.{name}")
+        super().__setattr__(name, value)
+
+    def _image(self) -> bytes:
+        """The bytes of the fields, without the padding between them."""
+        raw = bytes(self)
+        return b"".join(raw[start:end] for start, end in self._spans)
+
+    def __eq__(self, other: object) -> bool:
+        if type(other) is not type(self):
+            return NotImplemented
+        return self._image() == other._image()  # type: ignore[attr-defined]
+
+    __hash__ = None  # type: ignore[assignment]
+
+    def __repr__(self) -> str:
+        fields = ", ".join(f"{name}={getattr(self, name)!r}" for name in self._kinds)
+        return f"{type(self).__name__}({fields})"
+
+    def __reduce__(self) -> tuple[Callable[..., Any], tuple[Any, ...]]:
+        return _rebuilt, (type(self), self._image())
+
+    def copy(self: S) -> S:
+        """The same numbers, apart from these."""
+        return _rebuilt(type(self), self._image())
+
+
+def _struct(kind: type[S]) -> type[S]:
+    """The struct whose fields are the class's annotations, in their order."""
+    hints = get_type_hints(kind, include_extras=True)
+    fields = [
+        (name, getattr(hint, "__metadata__", (hint,))[0])
+        for name, hint in hints.items()
+        if name not in ("_kinds", "_spans")
+    ]
+    kind._fields_ = fields
+    kind._kinds = dict(fields)
+    kind._spans = _joined(_field_spans(kind))
+    return kind
+
+
+def _used(places: Iterable[Any], empty: Any) -> list[Any]:
+    """The places up to the last that is not empty."""
+    used = list(places)
+    while used and used[-1] == empty:
+        used.pop()
+    return used
+
+
+class Bytes(ctypes.c_uint8 * PLACES):  # type: ignore[misc]
+    """The 64 places of the transmit queue; printed without the zeros at the end."""
+
+    def __setitem__(self, index: Any, value: Any) -> None:
+        if isinstance(index, slice):
+            value = [fits(byte, 8, "a queued byte") for byte in value]
+        else:
+            value = fits(value, 8, "a queued byte")
+        super().__setitem__(index, value)
+
+    def __repr__(self) -> str:
+        return repr(_used(self, 0))
+
+
+@_struct
+class Registers(Struct):
+    """The registers that keep what is written to them."""
+
+    ier: U8
+    mcr: U8
+    lcr: U8
+    scr: U8
+
+
+@_struct
+class Baud(Struct):
+    """The baud generator: the divisor, and the ticks to the next pulse."""
+
+    divisor: U32
+    k: U32
+
+
+@_struct
+class FifoControl(Struct):
+    """What FCR sets: FIFO on, size bit (1 is 64), DMA bit, trigger code."""
+
+    enabled: U8
+    size: U8
+    dma: U8
+    trigger: U8
+
+
+@_struct
+class Inputs(Struct):
+    """The input pins: CTS, DSR, RI, DCD asserted in bits 0..3; the level of SIN."""
+
+    modem: U8
+    sin: U8
+
+
+@_struct
+class ByteQueue(Struct):
+    """The transmit queue: oldest first, places beyond the count zero."""
+
+    bytes: Bytes
+    count: U32
+
+
+@_struct
+class Frame(Struct):
+    """The transmitter shift register: pulses left of the frame now sent, its byte and format."""
+
+    left: U32
+    byte: U8
+    format: U8
+
+
+@_struct
+class Entry(Struct):
+    """A received character with its error flags, each 0 or 1."""
+
+    byte: U8
+    pe: U8
+    fe: U8
+    bi: U8
+
+
+class Entries(Entry * PLACES):  # type: ignore[misc, valid-type, operator]
+    """The 64 places of the receive queue; printed without the blank ones at the end."""
+
+    def __repr__(self) -> str:
+        return repr(_used(self, Entry()))
+
+
+@_struct
+class EntryQueue(Struct):
+    """The receive queue: oldest first, places beyond the count zero."""
+
+    entries: Entries
+    count: U32
+
+
+@_struct
+class Receiver(Struct):
+    """The receiver: 0 idle, 1 waiting for mark, 2 in a character, with what of it is sampled."""
+
+    phase: U8
+    format: U8
+    samples: U8
+    parity: U8
+    position: U32
+
+
+@_struct
+class Latches(Struct):
+    """The latches, the change bits of MSR (bits 0..3: CTS, DSR, RI, DCD), RTS hold, the idle count."""
+
+    empty: U8
+    overrun: U8
+    timeout: U8
+    changes: U8
+    hold: U8
+    idle: U32
+
+
+# The order of the numbers of a state in the text protocol of the program `calls`.
+_ORDER = """
+    registers.ier registers.mcr registers.lcr registers.scr baud.divisor baud.k
+    fifo.enabled fifo.size fifo.dma fifo.trigger inputs.modem inputs.sin
+    tx.count tx.bytes frame.left frame.byte frame.format rx.count rx.entries
+    receiver.phase receiver.position receiver.format receiver.samples receiver.parity
+    latches.empty latches.overrun latches.timeout latches.idle latches.changes latches.hold
+""".split()
+
+
+@_struct
+class State(Struct):
+    """A state of the UART. Any numbers may stand in it: a state that is not well formed is refused
+    by every call."""
+
+    registers: Registers
+    baud: Baud
+    fifo: FifoControl
+    inputs: Inputs
+    tx: ByteQueue
+    frame: Frame
+    rx: EntryQueue
+    receiver: Receiver
+    latches: Latches
+
+    def numbers(self) -> list[int]:
+        """The 348 numbers of the text protocol: what `state` writes and `load` takes."""
+        numbers: list[int] = []
+        for path in _ORDER:
+            value = operator.attrgetter(path)(self)
+            if isinstance(value, Bytes):
+                numbers.extend(value)
+            elif isinstance(value, Entries):
+                for entry in value:
+                    numbers.extend((entry.byte, entry.pe, entry.fe, entry.bi))
+            else:
+                numbers.append(value)
+        return numbers
+
+    @classmethod
+    def from_numbers(cls, numbers: Iterable[int]) -> State:
+        """The state of the 348 numbers of the text protocol. A number that the field's type cannot
+        hold is a ValueError."""
+        given = list(numbers)
+        state = cls()
+        count = len(state.numbers())
+        if len(given) != count:
+            raise ValueError(f"a state is {count} numbers, not {len(given)}")
+        left = iter(given)
+        for path in _ORDER:
+            part, name = path.split(".")
+            struct = getattr(state, part)
+            if name == "bytes":
+                struct.bytes = [next(left) for _ in range(PLACES)]
+            elif name == "entries":
+                struct.entries = [Entry(*(next(left) for _ in range(4))) for _ in range(PLACES)]
+            else:
+                setattr(struct, name, next(left))
+        return state
+
+
+@_struct
+class Outputs(Struct):
+    """The output pins: SOUT and INTRPT 1 is high; the others 1 is asserted."""
+
+    sout: U8
+    rts: U8
+    dtr: U8
+    out1: U8
+    out2: U8
+    intrpt: U8
+
+
+@_struct
+class Answer(Struct):
+    """What a step answers: the byte read, the pins after it, the next state."""
+
+    number: U8
+    byte: U8
+    outputs: Outputs
+    state: State
+
+
+@_struct
+class Looked(Struct):
+    """What the look at the pins answers."""
+
+    number: U8
+    outputs: Outputs
+
+
+@_struct
+class Forecasted(Struct):
+    """What the forecast answers: the ticks until queue and shift register are both empty."""
+
+    number: U8
+    ticks: U32
+
+
+@_struct
+class Leveled(Struct):
+    """What the call for the line's level answers."""
+
+    number: U8
+    level: U8
+
+
+@_struct
+class Ran(Struct):
+    """What run answers: the ticks used, and the state after them."""
+
+    number: U8
+    used: U32
+    state: State
+
+
+@_struct
+class Values(Struct):
+    """How a replay ended: the number, the byte seen, the model's byte, the record's place."""
+
+    number: U8
+    seen: U8
+    model: U8
+    place: Size
+
+
+@_struct
+class Replayed(Struct):
+    """What a replay answers: how it ended, and the state in which it did."""
+
+    values: Values
+    state: State
+
+
+@_struct
+class Progress(Struct):
+    """Where a file stands: its version, what stopped it (0 nothing so far, 1 a read that differs, 2 a
+    refusal) and how, the records done, the state."""
+
+    version: U32
+    stopped: U8
+    done: Size
+    values: Values
+    state: State
+
+
+@_struct
+class Versions(Struct):
+    """The library's version, and that of the layout of its structs."""
+
+    major: U32
+    minor: U32
+    patch: U32
+    layout: U32

@@ -1,0 +1,345 @@
+"""The UART as an object that holds its state."""
+from __future__ import annotations
+
+import array
+import ctypes
+import io
+import itertools
+import os
+from typing import IO, Any, Callable, Iterable, Iterator, NamedTuple, Optional, Union
+
+from .library import library
+from .structs import Outputs, State, Values, fits
+
+_versions = library.uart_version()
+__version__ = f"{_versions.major}.{_versions.minor}.{_versions.patch}"
+
+# Register addresses. With LCR bit 7 set, 0 and 1 are the divisor's low and high byte.
+RBR = THR = DLL = 0
+IER = DLM = 1
+IIR = FCR = 2
+LCR, MCR, LSR, MSR, SCR = 3, 4, 5, 6, 7
+
+MALFORMED, BAD_ADDRESS, BAD_LEVEL, NO_CLOCK, HELD_BACK = 1, 2, 3, 4, 5
+BAD_HEADER, UNKNOWN_VERSION, BAD_RECORD = 6, 7, 8
+
+_WHY = {
+    MALFORMED: "the state is not well formed",
+    BAD_ADDRESS: "register address above 7",
+    BAD_LEVEL: "impossible pin level",
+    NO_CLOCK: "work left and the divisor is 0",
+    HELD_BACK: "bytes queued and held by flow control",
+    BAD_HEADER: "bad mark or nonzero pad of a capture",
+    UNKNOWN_VERSION: "unknown version of a capture",
+    BAD_RECORD: "record of bad kind, with stray bits, or cut off",
+}
+
+# A call of the library is not interrupted, so long work goes in pieces of some tenths of a second at
+# most: ticks at a divisor of 1 take about 10 ns, and a record has at most 65,535 of them.
+_TICKS = 1 << 23
+_RECORDS = 512
+
+_NONE = (ctypes.c_uint32 * 0)()
+
+_HEADER_BYTES = 8
+_PIECE_BYTES = 4 * _RECORDS
+_BLOCK_BYTES = 32 * _PIECE_BYTES
+
+Told = Callable[[int, int, Optional[int]], object]
+"""What is told of a file: the records done, the bytes read, and of how many (None: not known)."""
+
+
+class Refused(Exception):
+    """A refusal, by its number; of a replay with the record's place."""
+
+    number: int
+    place: Optional[int]
+
+    def __init__(self, number: int, place: Optional[int] = None) -> None:
+        at = "" if place is None else f", place {place}"
+        super().__init__(f"{_WHY.get(number, 'refused')} (number {number}{at})")
+        self.number = number
+        self.place = place
+
+    def __reduce__(self) -> tuple[type[Refused], tuple[int, Optional[int]]]:
+        return Refused, (self.number, self.place)
+
+
+class Difference(NamedTuple):
+    """The read at which a replay stopped: its place, counted from 0, the byte seen and the model's."""
+
+    place: int
+    seen: int
+    model: int
+
+
+def _done(answer: Any) -> Any:
+    """The answer, unless it is a refusal."""
+    if answer.number:
+        raise Refused(answer.number)
+    return answer
+
+
+def _difference(values: Values, before: int = 0) -> Optional[Difference]:
+    """How a replay ended, its place counted from so many records earlier."""
+    if values.number:
+        raise Refused(values.number, before + values.place)
+    if values.seen == values.model:
+        return None
+    return Difference(before + values.place, values.seen, values.model)
+
+
+def _word(record: Any) -> int:
+    """A record that is given as a number, or the reason why it is none."""
+    if isinstance(record, (bytes, bytearray, memoryview)):
+        raise TypeError("records are numbers, not bytes: replay_file takes a capture's file")
+    return fits(record, 32, "a record")
+
+
+def _numbers(records: Iterable[int]) -> Iterator[Any]:
+    """Records that are given as numbers, a piece at a time."""
+    left = iter(records)
+    while piece := list(itertools.islice(left, _RECORDS)):
+        try:
+            words = array.array("I", piece)
+        except (OverflowError, TypeError):
+            words = array.array("I", map(_word, piece))
+        yield (ctypes.c_uint32 * len(words)).from_buffer(words)
+
+
+def _words(view: memoryview) -> Iterator[Any]:
+    """Records that stand in memory as 32-bit words, a piece at a time."""
+    for start in range(0, len(view), _RECORDS):
+        piece = view[start : start + _RECORDS].tobytes()
+        yield (ctypes.c_uint32 * (len(piece) // 4)).from_buffer_copy(piece)
+
+
+def _pieces(records: Any) -> Iterator[Any]:
+    """Records, a piece at a time: words of a buffer as they stand, anything else as numbers."""
+    try:
+        view = memoryview(records)
+    except TypeError:
+        return _numbers(records)
+    if view.itemsize == 1:
+        raise TypeError("bytes are no records: replay_file takes a capture's file")
+    if view.ndim != 1:
+        raise TypeError(f"records stand in one dimension, not in {view.ndim}")
+    if view.itemsize == 4 and view.format.lstrip("@=<") in ("I", "L"):
+        return _words(view)
+    return _numbers(records)
+
+
+def _read_full(file: IO[bytes], count: int) -> bytes:
+    """So many bytes of a file, or fewer where it ends."""
+    parts = []
+    while count > 0:
+        part = file.read(count)
+        if part is None:
+            raise BlockingIOError("the capture has no bytes ready: replay_file needs a blocking file")
+        if not isinstance(part, bytes):
+            raise TypeError("a capture's file is opened for bytes: open(path, 'rb')")
+        if not part:
+            break
+        parts.append(part)
+        count -= len(part)
+    return b"".join(parts)
+
+
+def _bytes_left(file: IO[bytes]) -> Optional[int]:
+    """The bytes from where a file stands to its end; None where that is not known, as of a pipe."""
+    if not (hasattr(file, "seekable") and file.seekable()):
+        return None
+    at = file.tell()
+    end = file.seek(0, io.SEEK_END)
+    file.seek(at)
+    return max(end - at, 0)
+
+
+def _replay_stream(file: IO[bytes], progress: Optional[Told]) -> Any:
+    """The library's answer for a capture's file, read a block at a time."""
+    total = _bytes_left(file) if progress else None
+    header = _read_full(file, _HEADER_BYTES)
+    read = len(header)
+    stands = library.uart_replay_begin(header, len(header))
+    left = b""
+    while not stands.stopped:
+        block = _read_full(file, _BLOCK_BYTES)
+        read += len(block)
+        for start in range(0, len(block), _PIECE_BYTES):
+            piece = block[start : start + _PIECE_BYTES]
+            stands = library.uart_replay_more(stands, piece, len(piece))
+        if progress:
+            progress(stands.done, read, total)
+        if len(block) < _BLOCK_BYTES:
+            left = block[len(block) - len(block) % 4 :]
+            break
+    return library.uart_replay_end(stands, left, len(left))
+
+
+class Uart:
+    """The UART, holding its state. Any state may be put into it: a malformed one is refused."""
+
+    __slots__ = ("_state",)
+
+    _state: State
+
+    def __init__(self, state: Optional[State] = None) -> None:
+        """In the fresh state, or in a copy of a state."""
+        if state is None:
+            self._state = library.uart_fresh()
+        else:
+            self.state = state
+
+    @property
+    def state(self) -> State:
+        """The state as it is now. Its fields can be set; the next step puts another State here."""
+        return self._state
+
+    @state.setter
+    def state(self, state: State) -> None:
+        if not isinstance(state, State):
+            raise TypeError(f"a state is a State, not {type(state).__name__}")
+        self._state = state.copy()
+
+    @classmethod
+    def from_numbers(cls, numbers: Iterable[int]) -> Uart:
+        """The UART in the state of the 348 numbers of the text protocol."""
+        return cls(State.from_numbers(numbers))
+
+    def numbers(self) -> list[int]:
+        """The 348 numbers of the text protocol: what `state` writes and `load` takes."""
+        return self._state.numbers()
+
+    def copy(self) -> Uart:
+        """The UART as it is now, apart from this one."""
+        return Uart(self._state)
+
+    def __eq__(self, other: object) -> bool:
+        if not isinstance(other, Uart):
+            return NotImplemented
+        return self._state == other._state
+
+    __hash__ = None  # type: ignore[assignment]
+
+    def __repr__(self) -> str:
+        return f"Uart({self._state!r})"
+
+    def __reduce__(self) -> tuple[type[Uart], tuple[State]]:
+        return Uart, (self._state,)
+
+    def _step(self, answer: Any) -> Any:
+        self._state = _done(answer).state
+        return answer
+
+    def reset(self) -> Outputs:
+        """Reset; the output pins after it."""
+        return self._step(library.uart_reset(self._state)).outputs
+
+    def read(self, address: int) -> int:
+        """The byte that a register read gives."""
+        return self._step(library.uart_read(self._state, fits(address, 8, "an address"))).byte
+
+    def write(self, address: int, byte: int) -> Outputs:
+        """A register write; the output pins after it."""
+        address, byte = fits(address, 8, "an address"), fits(byte, 8, "a byte")
+        return self._step(library.uart_write(self._state, address, byte)).outputs
+
+    def tick(self, n: int = 1) -> Outputs:
+        """n ticks of the clock; the output pins after them."""
+        left = fits(n, 32, "a number of ticks")
+        state = self._state
+        while True:
+            piece = min(left, _TICKS)
+            answer = _done(library.uart_ticks(state, piece))
+            state = answer.state
+            left -= piece
+            if not left:
+                return self._step(answer).outputs
+
+    def forecast(self) -> int:
+        """The ticks until queue and shift register are both empty."""
+        return _done(library.uart_forecast(self._state)).ticks
+
+    def level(self, t: int) -> int:
+        """The level of the transmitter's line after t ticks."""
+        return _done(library.uart_level(self._state, fits(t, 32, "a number of ticks"))).level
+
+    def run(self, n: int) -> int:
+        """At most n ticks, until queue and shift register are both empty: the ticks used."""
+        left = fits(n, 32, "a number of ticks")
+        state = self._state
+        used = 0
+        while True:
+            piece = min(left, _TICKS)
+            ran = _done(library.uart_run(state, piece))
+            state = ran.state
+            used += ran.used
+            left -= piece
+            if not left or ran.used < piece:
+                self._step(ran)
+                return used
+
+    def replay(self, version: int, records: Iterable[int]) -> Optional[Difference]:
+        """A replay of records of a capture from this state, up to the first read whose byte differs
+        from the model's: None where all agree, else the Difference. The state is then the end state,
+        or that before the read.
+
+        The records are numbers of 32 bits: any iterable of them, or a buffer of 32-bit words, as
+        array('I') or numpy's uint32. Each is looked at when it is reached. A capture's file with its
+        header is for replay_file."""
+        version = fits(version, 32, "a version")
+        state = self._state
+        before = 0
+        for piece in itertools.chain([_NONE], _pieces(records)):
+            replayed = library.uart_replay(state, version, piece, len(piece))
+            state = replayed.state
+            values = replayed.values
+            if values.number or values.seen != values.model:
+                break
+            before += len(piece)
+        self._state = state
+        return _difference(values, before)
+
+    def replay_file(
+        self, file: Union[str, os.PathLike[str], IO[bytes]], progress: Optional[Told] = None
+    ) -> Optional[Difference]:
+        """A replay of a capture's file, a path or a file open for bytes, from the fresh state, whatever
+        this one is: None where all reads agree, else the Difference. The state is then the end state,
+        or that before the read or the bad record.
+
+        The file is read a block at a time; `progress`, where given, is told after each."""
+        if isinstance(file, (str, os.PathLike)):
+            with open(file, "rb") as opened:
+                replayed = _replay_stream(opened, progress)
+        elif hasattr(file, "read"):
+            replayed = _replay_stream(file, progress)
+        else:
+            raise TypeError(
+                f"a capture's file is a path or a file open for bytes, not {type(file).__name__};"
+                " io.BytesIO makes one of bytes"
+            )
+        self._state = replayed.state
+        return _difference(replayed.values)
+
+    @property
+    def pins(self) -> Outputs:
+        """The output pins as they are."""
+        return _done(library.uart_pins(self._state)).outputs
+
+    @property
+    def sin(self) -> int:
+        """The level of the pin SIN."""
+        return self._state.inputs.sin
+
+    @sin.setter
+    def sin(self, level: int) -> None:
+        self._step(library.uart_set_sin(self._state, fits(level, 8, "the level of SIN")))
+
+    @property
+    def modem(self) -> int:
+        """The modem pins CTS, DSR, RI, DCD asserted in bits 0..3."""
+        return self._state.inputs.modem
+
+    @modem.setter
+    def modem(self, levels: int) -> None:
+        self._step(library.uart_set_modem(self._state, fits(levels, 8, "the modem pins")))

@@ -1,0 +1,136 @@
+//! Replay of a capture's file, whose bytes come in parts.
+use crate::raw;
+use crate::{Outcome, Uart};
+
+/// A capture's file that is being replayed from the fresh state.
+///
+/// The answer is that of the whole file, whatever its parts are.
+///
+/// ```
+/// use tl16c750::{File, Outcome};
+/// let mut file = File::begin(b"UTR\0\x01\0\0\0");
+/// let left = file.more(&[0x60, 5, 0, 0x10, 0x60]);
+/// assert_eq!(left, [0x60]);
+/// let (outcome, _) = file.end(&[0x60, 5, 0, 0x10]);
+/// assert_eq!(outcome, Outcome::Agreed);
+/// ```
+#[derive(Clone, Copy, Debug, PartialEq, Eq, Hash)]
+pub struct File {
+    progress: raw::Progress,
+}
+
+impl File {
+    /// The file that begins with the 8 bytes of its header, or that has only these bytes where they
+    /// are fewer.
+    pub fn begin(header: &[u8]) -> File {
+        // SAFETY: the address and the length are those of a slice.
+        let progress = unsafe { raw::uart_replay_begin(header.as_ptr(), header.len()) };
+        File { progress }
+    }
+
+    /// Replays the whole records of the bytes that come next. The one to three bytes left come again
+    /// at the start of the next part.
+    pub fn more<'a>(&mut self, bytes: &'a [u8]) -> &'a [u8] {
+        // SAFETY: the address and the length are those of a slice.
+        self.progress =
+            unsafe { raw::uart_replay_more(self.progress, bytes.as_ptr(), bytes.len()) };
+        &bytes[bytes.len() / 4 * 4..]
+    }
+
+    /// How the file that ends with these bytes ended, and the UART then.
+    pub fn end(self, bytes: &[u8]) -> (Outcome, Uart) {
+        // SAFETY: the address and the length are those of a slice.
+        let replayed = unsafe { raw::uart_replay_end(self.progress, bytes.as_ptr(), bytes.len()) };
+        let uart = Uart {
+            state: replayed.state,
+        };
+        (Outcome::of(replayed.values), uart)
+    }
+
+    /// The records done.
+    pub fn records(&self) -> usize {
+        self.progress.done
+    }
+
+    /// Whether nothing that comes next changes the answer.
+    pub fn stopped(&self) -> bool {
+        self.progress.stopped != 0
+    }
+}
+
+#[cfg(feature = "std")]
+mod read {
+    use super::File;
+    use crate::{Outcome, Uart};
+    use std::io::{ErrorKind, Read, Result};
+
+    /// The bytes of a file's header.
+    const HEADER: usize = 8;
+
+    /// What is told of a file after each block of it.
+    #[derive(Clone, Copy, Debug, PartialEq, Eq, Hash)]
+    pub struct Told {
+        /// The records done.
+        pub records: usize,
+        /// The bytes read.
+        pub bytes: u64,
+        /// Of how many, where that is known.
+        pub of: Option<u64>,
+    }
+
+    /// Reads until the block is full or the file ends.
+    fn fill(file: &mut impl Read, block: &mut [u8]) -> Result<usize> {
+        let mut used = 0;
+        while used < block.len() {
+            match file.read(&mut block[used..]) {
+                Ok(0) => break,
+                Ok(n) => used += n,
+                Err(error) if error.kind() == ErrorKind::Interrupted => {}
+                Err(error) => return Err(error),
+            }
+        }
+        Ok(used)
+    }
+
+    impl Uart {
+        /// A replay of a capture's file from the fresh state, whatever this one is. The state is then
+        /// the one in which it ended; where reading fails, it is as it was.
+        ///
+        /// The file is read a block of 16 KiB at a time.
+        pub fn replay_file(&mut self, file: impl Read) -> Result<Outcome> {
+            self.replay_file_telling(file, None, |_| {})
+        }
+
+        /// The same, and `progress` is told after each block; `of` is how many bytes the file has,
+        /// where the caller knows it.
+        pub fn replay_file_telling(
+            &mut self,
+            mut file: impl Read,
+            of: Option<u64>,
+            mut progress: impl FnMut(Told),
+        ) -> Result<Outcome> {
+            let mut block = [0; 16384];
+            let header = fill(&mut file, &mut block[..HEADER])?;
+            let mut replay = File::begin(&block[..header]);
+            let mut bytes = header as u64;
+            let mut used = block.len();
+            let mut left = &block[..0];
+            while !replay.stopped() && used == block.len() {
+                used = fill(&mut file, &mut block)?;
+                left = replay.more(&block[..used]);
+                bytes += used as u64;
+                progress(Told {
+                    records: replay.records(),
+                    bytes,
+                    of,
+                });
+            }
+            let (outcome, uart) = replay.end(left);
+            *self = uart;
+            Ok(outcome)
+        }
+    }
+}
+
+#[cfg(feature = "std")]
+pub use read::Told;

@@ -1,0 +1,101 @@
+// The stored captures, read in pieces of odd sizes, end as the second program says; what a refusal
+// and an outcome print; states as keys.
+#![cfg(feature = "std")]
+
+use std::collections::HashSet;
+use std::io::{Error, Read, Result};
+use std::{fs, path::Path};
+use tl16c750::{File, Outcome, Refusal, Told, Uart, LCR};
+
+// A file that gives a few bytes at a time.
+struct Pieces<'a> {
+    bytes: &'a [u8],
+    size: usize,
+}
+
+impl Read for Pieces<'_> {
+    fn read(&mut self, room: &mut [u8]) -> Result<usize> {
+        let n = self.size.min(room.len()).min(self.bytes.len());
+        let (piece, rest) = self.bytes.split_at(n);
+        room[..n].copy_from_slice(piece);
+        self.bytes = rest;
+        Ok(n)
+    }
+}
+
+struct Broken;
+
+impl Read for Broken {
+    fn read(&mut self, _: &mut [u8]) -> Result<usize> {
+        Err(Error::other("broken"))
+    }
+}
+
+#[test]
+fn stored_captures_end_as_they_must() -> Result<()> {
+    let stored = Path::new(env!("CARGO_MANIFEST_DIR")).join("../../crates/replay_stored");
+    let mut files: Vec<_> = fs::read_dir(stored.join("data"))?
+        .map(|entry| entry.map(|e| e.path()))
+        .collect::<Result<_>>()?;
+    files.retain(|path| path.file_name().is_some_and(|name| name.len() == 3));
+    files.sort();
+    let mut lines = String::new();
+    for (number, path) in files.iter().enumerate() {
+        let bytes = fs::read(path)?;
+        let mut uart = Uart::fresh();
+        let size = 1 + number % 7;
+        let bytes = &bytes[..];
+        let outcome = uart.replay_file(Pieces { bytes, size })?;
+        lines += &format!("{outcome}\n");
+        let (header, rest) = bytes.split_at(bytes.len().min(8));
+        assert_eq!(File::begin(header).end(rest), (outcome, uart));
+    }
+    assert_eq!(lines, fs::read_to_string(stored.join("stdout"))?);
+    Ok(())
+}
+
+#[test]
+fn a_failed_read_leaves_the_state() {
+    let mut uart = Uart::fresh();
+    uart.write(LCR, 3).unwrap();
+    let before = uart;
+    assert!(uart.replay_file(Broken).is_err());
+    assert_eq!(uart, before);
+}
+
+#[test]
+fn progress_is_told_to_the_end() -> Result<()> {
+    let mut bytes = b"UTR\0\x01\0\0\0".to_vec();
+    bytes.resize(8 + 4 * 10_000, 0);
+    let length = bytes.len() as u64;
+    let mut told = Vec::new();
+    let outcome =
+        Uart::fresh().replay_file_telling(&bytes[..], Some(length), |now| told.push(now))?;
+    assert_eq!(outcome, Outcome::Agreed);
+    let last = Told {
+        records: 10_000,
+        bytes: length,
+        of: Some(length),
+    };
+    assert_eq!(told.last(), Some(&last));
+    assert_eq!(told.len(), 3);
+    Ok(())
+}
+
+#[test]
+fn refusals_print_words() {
+    let words = "unknown version of a capture (number 7)";
+    assert_eq!(Refusal::UNKNOWN_VERSION.to_string(), words);
+    assert_eq!(Refusal(99).to_string(), "refused (number 99)");
+}
+
+#[test]
+fn equal_states_are_one_key() {
+    let mut looped = Uart::fresh();
+    looped.reset().unwrap();
+    let mut states = HashSet::from([Uart::fresh(), looped]);
+    assert_eq!(states.len(), 1);
+    looped.write(LCR, 3).unwrap();
+    states.insert(looped);
+    assert_eq!(states.len(), 2);
+}

@@ -1,0 +1,197 @@
+// Replay of a capture's file, whose bytes come in parts, under C names. What is carried from part to
+// part goes by value, as all else does: every bit pattern of it is a value.
+use crate::Replay;
+use crate::answered;
+use capture::Outcome;
+use capture::Replayed;
+use capture::Values;
+use capture::parts;
+use device::State;
+use sheet::answer;
+ghost use mathlib.Core.Path.{_≡_};
+ghost use mathlib.Core.List.{List, [], _++_};
+ghost use Prim.Native.Nat.{ℕ, _+_, _*_, _/_, _≤_, _<_, _^_};
+ghost use lib.ListN.{length, drop};
+ghost use Rattle.capture.specs.Replay.{refused as «refused-at»};
+ghost use Rattle.capture.specs.File.{captureOf, restOf};
+ghost use Rattle.export.specs.Replay.{replayAnswer};
+ghost use Rattle.export.specs.File.{stoppedBy, outcomeOf, carriedOf, handedOf, beyondOf, restAnswer};
+
+// The most records of a file, 2^62; no file has as many.
+const MOST: usize = 4611686018427387904;
+
+// The bytes of a block of 4,096 records.
+const BLOCK: usize = 16384;
+
+// Where a file stands: its version, what stopped it (0 nothing so far, 1 a read that differs, 2 a
+// refusal) with its values, the records done, and the state.
+#[repr(C)]
+pub struct Progress {
+    pub version: u32,
+    pub stopped: u8,
+    pub done: usize,
+    pub values: Values,
+    pub state: State,
+}
+
+// What stopped a replay, as a number.
+fn stopped_by(o: Outcome) -> u8
+    ensures { λ r. ⌜ r ≡ stoppedBy o ⌝ }
+{
+    match o {
+        Outcome::Agreed => 0,
+        Outcome::Differs { .. } => 1,
+        Outcome::Refused { .. } => 2,
+    }
+}
+
+// The outcome of what stopped a replay, and its values.
+fn outcome_of(stopped: u8, v: Values) -> Outcome
+    ensures { λ r. ⌜ r ≡ outcomeOf stopped v ⌝ }
+{
+    let place = v.place;
+    if stopped == 0 {
+        return Outcome::Agreed;
+    }
+    if stopped == 1 {
+        return Outcome::Differs {
+            place,
+            seen: v.seen,
+            model: v.model,
+        };
+    }
+    Outcome::Refused {
+        number: v.number,
+        place,
+    }
+}
+
+// The progress as `parts` has it, and back.
+fn carried(p: Progress) -> parts::Progress
+    ensures { λ r. ⌜ r ≡ carriedOf p ⌝ }
+{
+    let state = p.state;
+    let v = p.values;
+    parts::Progress {
+        version: p.version,
+        place: p.done,
+        replayed: Replayed {
+            state,
+            outcome: outcome_of(p.stopped, v),
+        },
+    }
+}
+
+fn handed(p: parts::Progress) -> Progress
+    ensures { λ r. ⌜ r ≡ handedOf p ⌝ }
+{
+    let replayed = p.replayed;
+    let o = replayed.outcome;
+    let state = replayed.state;
+    Progress {
+        version: p.version,
+        stopped: stopped_by(o),
+        done: p.place,
+        values: capture::values_of(o),
+        state,
+    }
+}
+
+// Replays all whole records of the bytes that come next, a block at a time.
+fn replay_blocks(p: parts::Progress, bytes: &[u8]) -> parts::Progress
+    requires { ⌜ p .place ≤ 2 ^ 62 ⌝ }
+    ensures { λ r. ⌜ ((rest : List ℕ) → restOf r (drop (4 * (length (now (bytes .entry)) / 4)) (now (bytes .entry)) ++ rest) ≡ restOf p (now (bytes .entry) ++ rest)) ⌝ }
+    ensures { λ r. ⌜ r .place ≤ p .place + length (now (bytes .entry)) / 4 ⌝ }
+{
+    let mut records = [0u32; 4096];
+    let mut q = p;
+    let mut at: usize = 0;
+    while BLOCK <= bytes.len() - at {
+        let end = at + BLOCK;
+        q = parts::go_on(q, &bytes[at..end], &mut records);
+        at = end;
+    }
+    parts::go_on(q, &bytes[at..], &mut records)
+}
+
+// A file that would have more than the most records is refused, and the state is as it was.
+fn refused(p: Progress) -> Progress
+    ensures { λ r. ⌜ r ≡ beyondOf p ⌝ }
+{
+    let state = p.state;
+    Progress {
+        version: p.version,
+        stopped: 2,
+        done: p.done,
+        values: Values {
+            number: answer::MALFORMED,
+            seen: 0,
+            model: 0,
+            place: 0,
+        },
+        state,
+    }
+}
+
+fn too_many(p: Progress) -> Replay
+    ensures { λ r. ⌜ r ≡ replayAnswer («refused-at» 1 (p .state) 0) ⌝ }
+{
+    let q = refused(p);
+    let values = q.values;
+    let state = q.state;
+    Replay { values, state }
+}
+
+// The file that begins with these bytes, which are its header, or all of it where it is shorter.
+#[no_mangle]
+pub extern "C" fn uart_replay_begin(header: &[u8]) -> Progress
+    ensures { λ r. ⌜ (length (now (header .entry)) ≡ 8 → (rest : List ℕ) → restAnswer r rest ≡ replayAnswer (captureOf (now (header .entry) ++ rest))) ⌝ }
+    ensures { λ r. ⌜ (length (now (header .entry)) < 8 → restAnswer r [] ≡ replayAnswer (captureOf (now (header .entry)))) ⌝ }
+    ensures { λ r. ⌜ r .done ≡ 0 ⌝ }
+{
+    let p = parts::begin(header);
+    handed(p)
+}
+
+// Replays the whole records of the bytes that come next. One to three bytes that are left come again
+// at the start of the next part.
+#[no_mangle]
+pub extern "C" fn uart_replay_more(p: Progress, bytes: &[u8]) -> Progress
+    ensures { λ r. ⌜ (p .done + length (now (bytes .entry)) / 4 ≤ 2 ^ 62 → (rest : List ℕ) → restAnswer r (drop (4 * (length (now (bytes .entry)) / 4)) (now (bytes .entry)) ++ rest) ≡ restAnswer p (now (bytes .entry) ++ rest)) ⌝ }
+    ensures { λ r. ⌜ (2 ^ 62 < p .done + length (now (bytes .entry)) / 4 → r ≡ beyondOf p) ⌝ }
+    ensures { λ r. ⌜ r .done ≤ p .done + length (now (bytes .entry)) / 4 ⌝ }
+{
+    let done = p.done;
+    let records = bytes.len() / 4;
+    if MOST < done {
+        return refused(p);
+    }
+    if MOST - done < records {
+        return refused(p);
+    }
+    let begun = carried(p);
+    let so_far = replay_blocks(begun, bytes);
+    handed(so_far)
+}
+
+// The answer for a file that ends with these bytes.
+#[no_mangle]
+pub extern "C" fn uart_replay_end(p: Progress, bytes: &[u8]) -> Replay
+    ensures { λ r. ⌜ (p .done + length (now (bytes .entry)) / 4 ≤ 2 ^ 62 → r ≡ restAnswer p (now (bytes .entry))) ⌝ }
+    ensures { λ r. ⌜ (2 ^ 62 < p .done + length (now (bytes .entry)) / 4 → r ≡ replayAnswer («refused-at» 1 (p .state) 0)) ⌝ }
+{
+    let done = p.done;
+    let records = bytes.len() / 4;
+    if MOST < done {
+        return too_many(p);
+    }
+    if MOST - done < records {
+        return too_many(p);
+    }
+    let begun = carried(p);
+    let q = replay_blocks(begun, bytes);
+    let at = 4 * records;
+    let mut room = [0u32; 1];
+    let r = parts::finish(q, &bytes[at..], &mut room);
+    answered(r)
+}
