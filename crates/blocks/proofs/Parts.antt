@@ -1,8 +1,8 @@
 -- A block answered part by part: each part makes a line at least, until none is left.
-use Prim.Native.Nat.{ℕ, _+_, _≤_, _<_}
-use mathlib.Core.Path.{_≡_, refl, sym, ap, _∙_}
+use Prim.Native.Nat.{ℕ, _+_, _-_, _≤_}
+use mathlib.Core.Path.{_≡_, refl, sym, _∙_}
 use mathlib.Core.Bool.{Bool, true, false, false≢true}
-use mathlib.Core.List.{List, [], _++_}
+use mathlib.Core.List.{List, []}
 use lib.ListN.{length, drop, drop-of-length-le}
 use native.Mathlib.Omega.{arith}
 use Rattle.text.specs.Text.{before}
@@ -22,17 +22,17 @@ pub going-begins : (w : Standing) (block : List ℕ) → Going w block w 0 true 
 going-begins w block =
     record { inside = omega arith; leads = refl; all = λ f. absurd (false≢true (sym f)); enough = λ _. omega arith }
 
-module _ {w₀ : Standing} {block : List ℕ} {w : Standing} {next : ℕ} {turns : ℕ} where
-  pub going-turns : (w′ : Standing) (next′ : ℕ) (more′ : Bool) (room : ℕ) → Going w₀ block w next true turns → 0 < turns → longestAnswer ≤ room → Answered w block next w′ next′ more′ room → (turns′ : ℕ) → turns ≡ turns′ + 1 → Going w₀ block w′ next′ more′ turns′
-  going-turns w′ next′ more′ room g h r a turns′ e =
+module _ {w₀ : Standing} {block : List ℕ} {w : Standing} {next : ℕ} {more : Bool} {turns : ℕ} where
+  pub going-turns : {w′ : Standing} {next′ : ℕ} {more′ : Bool} {room : ℕ}
+      → Going w₀ block w next more turns → more ≡ true → longestAnswer ≤ room → Answered w block next w′ next′ more′ room → Going w₀ block w′ next′ more′ (turns - 1)
+  going-turns g m r a =
       record {
         inside = a .inside;
         leads = g .leads ∙ a .leads;
         all = a .all;
-        enough = λ m. omega (arith, g .enough refl, a .progress m r);
+        enough = λ m′. omega (arith, g .enough m, a .progress m′ r);
       }
 
-module _ {w₀ : Standing} {block : List ℕ} {w : Standing} {next : ℕ} {more : Bool} {turns : ℕ} where
   -- no line is left
   pub going-stops : Going w₀ block w next more turns → more ≡ false → readAfter w₀ [] block ≡ reading w (drop next block)
   going-stops g f = g .leads ∙ read-no-line w (drop next block) (g .all f)
@@ -44,4 +44,4 @@ module _ {w₀ : Standing} {block : List ℕ} {w : Standing} {next : ℕ} {more 
     where
       go : (m : Bool) → more ≡ m → before 10 (drop next block) ≡ length (drop next block)
       go false e = g .all e
-      go true e = rw (drop-of-length-le {n = next} block (omega (arith, g .enough e)))
+      go true e = rw (drop-of-length-le block {i = next} (omega (arith, g .enough e)))
