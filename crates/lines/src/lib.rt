@@ -1,20 +1,20 @@
-// A block of lines answered, and what is kept of a line that has not ended.
+// A block of lines answered, and what is held of a line that has not ended.
 use current::LONGEST_ANSWER;
 use current::Session;
 use text::words;
 ghost use mathlib.Core.Path.{_≡_};
-ghost use Prim.Native.Nat.{_-_, _≤_, min};
+ghost use Prim.Native.Nat.{suc, _≤_, min};
 ghost use lib.ListN.{length, take, drop};
-ghost use Rattle.command.specs.Command.{mostNumbers};
+ghost use Rattle.command.specs.Command.{mostNumbers, longestLine};
 ghost use Rattle.numbers.specs.Numbers.{stateCount};
 ghost use Rattle.current.specs.Current.{longestAnswer};
 ghost use Rattle.session.specs.Session.{standing};
-ghost use Rattle.lines.specs.Lines.{lastSaid, Answered};
+ghost use Rattle.lines.specs.Lines.{lastSaid, Answered, Answers, heldOf};
 
 const NEWLINE: u8 = b'\n';
 
-// The most that is kept of a line that has not ended: one byte more than any that is no `bad`.
-const KEPT: usize = 11277;
+// The most that is held of a line that has not ended: one byte more than any that is no `bad`.
+const HELD: usize = command::LONGEST_LINE + 1;
 
 // Where the answering of a block stands: the current state, the place in the block after the last
 // line answered, the end of the answers, and whether it stopped for want of room.
@@ -38,7 +38,8 @@ pub fn answer_lines(
     requires { ⌜ from ≤ length (now block) ⌝ }
     requires { ⌜ length (now numbers) ≡ mostNumbers ⌝ }
     requires { ⌜ length (now kept) ≡ stateCount ⌝ }
-    ensures { λ r. ⌜ Answered (standing s (now (kept .entry))) (now (block .entry)) from (standing (r .session) (now (kept .exit))) (r .next) (now (out .exit)) (r .end) (r .full) ⌝ }
+    ensures { λ r. ⌜ Answered (standing s (now (kept .entry))) (now (block .entry)) from (standing (r .session) (now (kept .exit))) (r .next) (r .full) (length (now (out .entry))) ⌝ }
+    ensures { λ r. ⌜ Answers (standing s (now (kept .entry))) (now (block .entry)) from (standing (r .session) (now (kept .exit))) (r .next) (now (out .exit)) (r .end) ⌝ }
 {
     let mut t = s;
     let mut next = from;
@@ -66,22 +67,23 @@ pub fn answer_lines(
     }
 }
 
-// How much is kept of so many bytes.
-fn at_most_kept(n: usize) -> usize
-    ensures { λ r. ⌜ r ≡ min n 11277 ⌝ }
+// How much is held of so many bytes.
+fn at_most_held(n: usize) -> usize
+    ensures { λ r. ⌜ r ≡ min n (suc longestLine) ⌝ }
 {
-    if n < KEPT { n } else { KEPT }
+    if n < HELD { n } else { HELD }
 }
 
-// Moves what is kept of the bytes of a block from `from` up to `to` to its start, and answers how
+// Moves what is held of the bytes of a block from `from` up to `to` to its start, and answers how
 // much that is.
-pub fn keep(block: &mut [u8], from: usize, to: usize) -> usize
+pub fn hold(block: &mut [u8], from: usize, to: usize) -> usize
     requires { ⌜ from ≤ to ⌝ }
     requires { ⌜ to ≤ length (now block) ⌝ }
-    ensures { λ r. ⌜ take r (now (block .exit)) ≡ take 11277 (take (to - from) (drop from (now (block .entry)))) ⌝ }
-    ensures { λ r. ⌜ r ≡ min (to - from) 11277 ⌝ }
+    ensures { λ r. ⌜ take r (now (block .exit)) ≡ heldOf (drop from (take to (now (block .entry)))) ⌝ }
+    ensures { λ r. ⌜ r ≤ suc longestLine ⌝ }
+    ensures { λ r. ⌜ r ≤ length (now (block .exit)) ⌝ }
 {
-    let n = at_most_kept(to - from);
+    let n = at_most_held(to - from);
     let mut i: usize = 0;
     while i < n {
         block[i] = block[from + i];

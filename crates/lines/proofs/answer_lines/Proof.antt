@@ -1,6 +1,6 @@
--- The lines before `next` are answered, and their answers stand up to `end`.
+-- The lines before `next` are made, and their answers stand up to `end`.
 use Rattle.session.specs.Session.{standing}
-use Rattle.lines.proofs.Blocks.{Answering, answer-turns, answer-none, answer-full}
+use Rattle.lines.proofs.Blocks.{Answering, answer-turns, answers, answered-all, answered-some}
 use Prim.Native.Nat.{_-_}
 use mathlib.Core.Path.{_≡_, refl, _∙_}
 use lib.ListN.{length}
@@ -16,7 +16,7 @@ abbrev μ-loop : tie.MeasureT-loop
 μ-loop block from numbers₀ kept₀ out₀ t₀ next₀ end₀ numbers kept out t next end = length block - next
 
 loop-holds : tie.Need-loop-holds Inv-loop μ-loop
-loop-holds c = (refl, (refl, record { inside = c .before .before .before .before .pre .0; room = omega arith; same = refl; answers = λ more. refl }))
+loop-holds c = (refl, (refl, record { inside = c .before .before .before .before .pre .0; room = omega arith; same = refl; started = omega arith; none = λ z. refl; leads = refl; written = refl }))
 
 add-loop : tie.Need-add-loop Inv-loop μ-loop
 add-loop c = omega (arith, c .loop .inv .1 .1 .same, c .loop .inv .1 .1 .room, c .before .before .before .before .before .good .1 .1 .1 .1 .1 .0 .1)
@@ -34,7 +34,9 @@ same-length-3 : tie.Need-same-length-3 Inv-loop μ-loop
 same-length-3 c = c .before .before .before .loop .inv .1 .1 .same
 
 returns : tie.Need-returns Inv-loop μ-loop
-returns c = answer-none (c .before .before .before .loop .inv .1 .1) _ (c .before .find .ensures .0) (c .if1 .taken)
+returns c =
+    let a = c .before .before .before .loop .inv .1 .1 in
+    (answered-all a _ (c .before .find .ensures .0) (c .if1 .taken), answers a)
 
 sub-answer-line : tie.Need-sub-answer-line Inv-loop μ-loop
 sub-answer-line c = search needs
@@ -78,7 +80,9 @@ same-length-6 : tie.Need-same-length-6 Inv-loop μ-loop
 same-length-6 c = c .before .loop .inv .1 .1 .same
 
 returns-2 : tie.Need-returns-2 Inv-loop μ-loop
-returns-2 c = answer-full (c .before .loop .inv .1 .1)
+returns-2 c =
+    let a = c .before .loop .inv .1 .1 in
+    (answered-some a (omega (arith, c .loop-test .left)), answers a)
 
 pub answer-lines-spec : {M : Type 1} → statement M
 answer-lines-spec =
