@@ -35,7 +35,7 @@ frame-length-bounds f = let b = stop-bounds f in (omega arith, omega arith)
 length-bits : (n x : ℕ) → length (bits n x) ≡ n
 unfolding bits
 length-bits zero x = refl
-length-bits (suc n) x = ap suc (length-bits n (x / 2))
+length-bits (suc n) x = ap suc (length-bits n _)
 
 length-stretch : (n : ℕ) (bs : List ℕ) → length (stretch n bs) ≡ length bs * n
 length-stretch n [] = omega arith
