@@ -12,7 +12,7 @@ use Rattle.device.specs.declared.State.{State}
 use Rattle.recorded.specs.Record.{stepOf}
 use Rattle.invariant.proofs.Settled.{Kept}
 use Rattle.capture.specs.declared.Outcome.{Outcome}
-use Rattle.capture.specs.File.{agreeing}
+use Rattle.capture.specs.Replay.{agreeing}
 use Rattle.capture.specs.Replay.{stepsOf, modelByte, differing, replayFrom, Agrees}
 use Rattle.recorded.proofs.Laws.{step-kept}
 use Rattle.capture.proofs.Ways.{each-way}

@@ -1,4 +1,3 @@
 pub mod Laws
 pub mod Ways
 pub mod Agreed
-pub mod Carried

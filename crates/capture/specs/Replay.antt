@@ -26,6 +26,12 @@ differs s place seen model = record { state = s; outcome = Outcome.Differs place
 abbrev pub refused : ℕ → State → ℕ → Replayed
 refused number s place = record { state = s; outcome = Outcome.Refused number place }
 
+-- nothing has differed or been refused
+abbrev pub agreeing : Outcome → Bool
+agreeing Outcome.Agreed = true
+agreeing (Outcome.Differs place seen model) = false
+agreeing (Outcome.Refused number place) = false
+
 -- document 01's number and values for each outcome: 0 where nothing is refused, and 0 for what is not named
 abbrev pub valuesOf : Outcome → Values
 valuesOf Outcome.Agreed = record { number = 0; place = 0; seen = 0; model = 0 }

@@ -1,8 +1,6 @@
 // Captures: replay of the recorder's records from a state.
 //
 // The definitions that the contracts cite stand in `specs/Replay.antt`.
-pub mod parts;
-
 use device::State;
 use ranges::well_formed;
 use recorder::file;
@@ -64,7 +62,7 @@ pub fn values_of(o: Outcome) -> Values
 }
 
 // The answer of a refusal: the state before the record at its place.
-fn refused(number: u8, s: State, place: usize) -> Replayed
+pub fn refused(number: u8, s: State, place: usize) -> Replayed
     ensures { λ r. ⌜ r ≡ «refused-at» number s place ⌝ }
 {
     Replayed {

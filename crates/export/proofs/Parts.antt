@@ -7,9 +7,9 @@ use lib.Seq.{length-take-le, take-all, drop-length, drop-drop}
 use native.Mathlib.Omega.{arith}
 use Rattle.recorder.proofs.Laws.{left}
 use Rattle.capture.specs.declared.Outcome.{Outcome}
-use Rattle.capture.specs.declared.parts.Progress.{Progress}
+use Rattle.capture_file.specs.declared.Progress.{Progress}
 use Rattle.capture.specs.Replay.{valuesOf}
-use Rattle.capture.specs.File.{restOf}
+use Rattle.capture_file.specs.File.{restOf}
 use Rattle.export.specs.declared.file.Progress.{Progress as Carried}
 use Rattle.export.specs.Replay.{replayAnswer}
 use Rattle.export.specs.File.{stoppedBy, outcomeOf, carriedOf, handedOf, restAnswer}

@@ -5,9 +5,9 @@ use mathlib.Core.List.{List}
 use lib.Dec.{eqb}
 use Rattle.capture.specs.declared.Outcome.{Outcome}
 use Rattle.capture.specs.declared.Values.{Values}
-use Rattle.capture.specs.declared.parts.Progress as parts
+use Rattle.capture_file.specs.declared.Progress as parts
 use Rattle.capture.specs.Replay.{refused, valuesOf}
-use Rattle.capture.specs.File.{restOf}
+use Rattle.capture_file.specs.File.{restOf}
 use Rattle.export.specs.declared.Replay.{Replay}
 use Rattle.export.specs.declared.file.Progress.{Progress}
 use Rattle.export.specs.Replay.{replayAnswer}

@@ -5,7 +5,6 @@ use crate::answered;
 use capture::Outcome;
 use capture::Replayed;
 use capture::Values;
-use capture::parts;
 use device::State;
 use sheet::answer;
 ghost use mathlib.Core.Path.{_≡_};
@@ -13,7 +12,7 @@ ghost use mathlib.Core.List.{List, [], _++_};
 ghost use Prim.Native.Nat.{ℕ, _+_, _*_, _/_, _≤_, _<_, _^_};
 ghost use lib.ListN.{length, drop};
 ghost use Rattle.capture.specs.Replay.{refused as «refused-at»};
-ghost use Rattle.capture.specs.File.{captureOf, restOf};
+ghost use Rattle.capture_file.specs.File.{captureOf, restOf};
 ghost use Rattle.export.specs.Replay.{replayAnswer};
 ghost use Rattle.export.specs.File.{stoppedBy, outcomeOf, carriedOf, handedOf, beyondOf, restAnswer};
 
@@ -67,12 +66,12 @@ fn outcome_of(stopped: u8, v: Values) -> Outcome
 }
 
 // The progress as `parts` has it, and back.
-fn carried(p: Progress) -> parts::Progress
+fn carried(p: Progress) -> capture_file::Progress
     ensures { λ r. ⌜ r ≡ carriedOf p ⌝ }
 {
     let state = p.state;
     let v = p.values;
-    parts::Progress {
+    capture_file::Progress {
         version: p.version,
         place: p.done,
         replayed: Replayed {
@@ -82,7 +81,7 @@ fn carried(p: Progress) -> parts::Progress
     }
 }
 
-fn handed(p: parts::Progress) -> Progress
+fn handed(p: capture_file::Progress) -> Progress
     ensures { λ r. ⌜ r ≡ handedOf p ⌝ }
 {
     let replayed = p.replayed;
@@ -98,7 +97,7 @@ fn handed(p: parts::Progress) -> Progress
 }
 
 // Replays all whole records of the bytes that come next, a block at a time.
-fn replay_blocks(p: parts::Progress, bytes: &[u8]) -> parts::Progress
+fn replay_blocks(p: capture_file::Progress, bytes: &[u8]) -> capture_file::Progress
     requires { ⌜ p .place ≤ 2 ^ 62 ⌝ }
     ensures { λ r. ⌜ ((rest : List ℕ) → restOf r (drop (4 * (length (now (bytes .entry)) / 4)) (now (bytes .entry)) ++ rest) ≡ restOf p (now (bytes .entry) ++ rest)) ⌝ }
     ensures { λ r. ⌜ r .place ≤ p .place + length (now (bytes .entry)) / 4 ⌝ }
@@ -108,10 +107,10 @@ fn replay_blocks(p: parts::Progress, bytes: &[u8]) -> parts::Progress
     let mut at: usize = 0;
     while BLOCK <= bytes.len() - at {
         let end = at + BLOCK;
-        q = parts::go_on(q, &bytes[at..end], &mut records);
+        q = capture_file::go_on(q, &bytes[at..end], &mut records);
         at = end;
     }
-    parts::go_on(q, &bytes[at..], &mut records)
+    capture_file::go_on(q, &bytes[at..], &mut records)
 }
 
 // A file that would have more than the most records is refused, and the state is as it was.
@@ -149,7 +148,7 @@ pub extern "C" fn uart_replay_begin(header: &[u8]) -> Progress
     ensures { λ r. ⌜ (length (now (header .entry)) < 8 → restAnswer r [] ≡ replayAnswer (captureOf (now (header .entry)))) ⌝ }
     ensures { λ r. ⌜ r .done ≡ 0 ⌝ }
 {
-    let p = parts::begin(header);
+    let p = capture_file::begin(header);
     handed(p)
 }
 
@@ -192,6 +191,6 @@ pub extern "C" fn uart_replay_end(p: Progress, bytes: &[u8]) -> Replay
     let q = replay_blocks(begun, bytes);
     let at = 4 * records;
     let mut room = [0u32; 1];
-    let r = parts::finish(q, &bytes[at..], &mut room);
+    let r = capture_file::finish(q, &bytes[at..], &mut room);
     answered(r)
 }

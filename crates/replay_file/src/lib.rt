@@ -2,8 +2,7 @@
 // and writes how that ended.
 use capture::Outcome;
 use capture::Replayed;
-use capture::parts;
-use capture::parts::Progress;
+use capture_file::Progress;
 use libc::STDERR_FILENO;
 use libc::STDOUT_FILENO;
 ghost use mathlib.Core.Path.{_≡_};
@@ -64,7 +63,7 @@ fn replay_blocks(fd: i32, begun: Progress, block: &mut [u8], records: &mut [u32]
     while 0 < blocks {
         let so_far = p.replayed;
         let o = so_far.outcome;
-        if !parts::agreeing(o) {
+        if !capture_file::agreeing(o) {
             return Judged {
                 replayed: so_far,
                 failed: false,
@@ -80,11 +79,11 @@ fn replay_blocks(fd: i32, begun: Progress, block: &mut [u8], records: &mut [u32]
         }
         if n < block.len() {
             return Judged {
-                replayed: parts::finish(p, &block[..n], records),
+                replayed: capture_file::finish(p, &block[..n], records),
                 failed: false,
             };
         }
-        p = parts::go_on(p, block, records);
+        p = capture_file::go_on(p, block, records);
         blocks -= 1;
     }
     let replayed = p.replayed;
@@ -101,7 +100,7 @@ fn judge(fd: i32) -> Judged {
     let mut records = [0u32; 8192];
     let f = fill(fd, &mut header);
     let n = f.count;
-    let p = parts::begin(&header[..n]);
+    let p = capture_file::begin(&header[..n]);
     if f.failed {
         let replayed = p.replayed;
         return Judged {

@@ -13,7 +13,7 @@ use Rattle.export.proofs.file.replay_blocks.Statement.{statement}
 use Rattle.export.proofs.file.replay_blocks.Tie as tie
 use Rattle.export.proofs.file.replay_blocks.Reads as reads
 use Rattle.export.proofs.file.replay_blocks.Lts as lts
-use Rattle.capture.proofs.parts.go_on.Reads as go-on-reads
+use Rattle.capture_file.proofs.go_on.Reads as go-on-reads
 
 abbrev Inv-loop : tie.InvT-loop
 Inv-loop bytes records₀ q₀ at₀ records q at = (Blocks q₀ bytes q at) × (length records ≡ 4096) × (q₀ .place ≤ 2 ^ 62)

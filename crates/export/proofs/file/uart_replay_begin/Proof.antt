@@ -1,7 +1,7 @@
 -- What is begun is handed out.
 use Rattle.export.proofs.Parts.{carried-again}
-use Rattle.capture.specs.File.{restOf}
-use Rattle.capture.specs.declared.parts.Progress as parts
+use Rattle.capture_file.specs.File.{restOf}
+use Rattle.capture_file.specs.declared.Progress as parts
 use Rattle.export.specs.declared.file.Progress.{Progress}
 use Rattle.export.specs.Replay.{replayAnswer}
 use Rattle.export.specs.File.{restAnswer}
@@ -17,7 +17,7 @@ use Rattle.export.proofs.file.uart_replay_begin.Statement.{statement}
 use Rattle.export.proofs.file.uart_replay_begin.Tie as tie
 use Rattle.export.proofs.file.uart_replay_begin.Reads as reads
 use Rattle.export.proofs.file.uart_replay_begin.Lts as lts
-use Rattle.capture.proofs.parts.begin.Reads as begin-reads
+use Rattle.capture_file.proofs.begin.Reads as begin-reads
 use Rattle.export.proofs.file.handed.Reads as handed-reads
 
 -- src/file.rt:153:9

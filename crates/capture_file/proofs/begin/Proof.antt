@@ -1,10 +1,10 @@
 -- The header's words are the first two of the file.
-use Rattle.capture.specs.File.{recordsOf, headedOf}
+use Rattle.capture_file.specs.File.{recordsOf, headedOf}
 use Rattle.capture.specs.Replay.{agreed, refused}
-use Rattle.capture.specs.declared.parts.Progress.{Progress}
+use Rattle.capture_file.specs.declared.Progress.{Progress}
 use Rattle.device.specs.State.{freshOf}
 use Rattle.recorder.specs.File.{wordsOf, goodHeader, version}
-use Rattle.capture.proofs.Carried.{onward-none, rest-none, rest-records, short-file, headed-file}
+use Rattle.capture_file.proofs.Carried.{onward-none, rest-none, rest-records, short-file, headed-file}
 use Prim.Native.Nat.{ℕ, _-_, _≤_}
 use mathlib.Core.Path.{_≡_, refl, sym, ap, _∙_}
 use mathlib.Core.Bool.{true, false}
@@ -14,9 +14,9 @@ use lib.Seq.{length-take-le}
 use native.Mathlib.Omega.{arith}
 use borrow.Author.Tests.{not-true, not-false}
 use borrow.Author.Needs.{needs}
-use Rattle.capture.proofs.parts.begin.Statement.{statement}
-use Rattle.capture.proofs.parts.begin.Tie as tie
-use Rattle.capture.proofs.parts.unread.Reads as unread-reads
+use Rattle.capture_file.proofs.begin.Statement.{statement}
+use Rattle.capture_file.proofs.begin.Tie as tie
+use Rattle.capture_file.proofs.unread.Reads as unread-reads
 use Rattle.device.proofs.fresh.Reads as fresh-reads
 use Rattle.recorder.proofs.file.decode.Reads as decode-reads
 use Rattle.recorder.proofs.file.good_header.Reads as good-header-reads

@@ -1,10 +1,11 @@
 -- The part's records are replayed from where the last part ended.
 use Rattle.capture.specs.Replay.{valuesOf, replayOf}
 use Rattle.capture.specs.declared.Replayed.{Replayed}
 use Rattle.device.specs.Ranges.{wellFormed}
 use Rattle.recorder.specs.File.{wordsOf}
-use Rattle.capture.proofs.Carried.{rest-none, rest-records, later-agreeing, is-agreed, goes-on, agreed-known, place-within}
-use Rattle.capture.specs.File.{agreeing, onward}
+use Rattle.capture_file.proofs.Carried.{rest-none, rest-records, later-agreeing, is-agreed, goes-on, agreed-known, place-within}
+use Rattle.capture.specs.Replay.{agreeing}
+use Rattle.capture_file.specs.File.{onward}
 use Prim.Native.Nat.{_+_, _-_, _≤_}
 use mathlib.Core.Path.{_≡_, sym, ap, _∙_}
 use mathlib.Core.Bool.{true, false, true≢false}
@@ -13,11 +14,11 @@ use lib.ListN.{length, take}
 use native.Mathlib.Omega.{arith}
 use borrow.Author.Tests.{not-true, not-false}
 use borrow.Author.Needs.{needs}
-use Rattle.capture.proofs.parts.go_on.Statement.{statement}
-use Rattle.capture.proofs.parts.go_on.Tie as tie
-use Rattle.capture.proofs.parts.agreeing.Reads as agreeing-reads
-use Rattle.capture.proofs.parts.onward.Reads as onward-reads
+use Rattle.capture_file.proofs.go_on.Statement.{statement}
+use Rattle.capture_file.proofs.go_on.Tie as tie
+use Rattle.capture_file.proofs.agreeing.Reads as agreeing-reads
+use Rattle.capture_file.proofs.onward.Reads as onward-reads
 use Rattle.capture.proofs.replay.Reads as replay-reads
 use Rattle.recorder.proofs.file.decode.Reads as decode-reads
 
 agreeing-requires : tie.Need-agreeing-requires

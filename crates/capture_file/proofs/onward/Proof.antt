@@ -1,14 +1,14 @@
 -- Each case's place, n records on.
-use Rattle.capture.specs.File.{later}
+use Rattle.capture_file.specs.File.{later}
 use Rattle.capture.specs.Replay.{valuesOf}
 use Rattle.capture.specs.declared.Outcome.{Outcome}
 use Prim.Native.Nat.{_-_}
 use mathlib.Core.Path.{sym, ap, _∙_}
 use native.Mathlib.Omega.{arith}
 use borrow.Author.Needs.{needs}
-use Rattle.capture.proofs.parts.onward.Statement.{statement}
-use Rattle.capture.proofs.parts.onward.Tie as tie
+use Rattle.capture_file.proofs.onward.Statement.{statement}
+use Rattle.capture_file.proofs.onward.Tie as tie
 use Rattle.capture.proofs.refused.Reads as refused-reads
 
 enum-told : tie.Need-enum-told
 enum-told c = search needs

@@ -9,16 +9,10 @@ use Rattle.recorder.specs.File.{wordsOf, goodHeader, version, known}
 use Rattle.device.specs.declared.State.{State}
 use Rattle.device.specs.State.{freshOf}
 use Rattle.device.specs.Ranges.{wellFormed}
 use Rattle.capture.specs.declared.Outcome.{Outcome}
 use Rattle.capture.specs.declared.Replayed.{Replayed}
-use Rattle.capture.specs.declared.parts.Progress.{Progress}
+use Rattle.capture_file.specs.declared.Progress.{Progress}
 use Rattle.capture.specs.Replay.{refused, replayOf}
-
--- nothing has differed or been refused
-abbrev pub agreeing : Outcome → Bool
-agreeing Outcome.Agreed = true
-agreeing (Outcome.Differs place seen model) = false
-agreeing (Outcome.Refused number place) = false
 
 -- one to three bytes left at the end of the records' bytes: 8 at their place, where every record before agrees
 unfoldable pub ended : List ℕ → Replayed → Replayed

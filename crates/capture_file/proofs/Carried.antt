@@ -15,12 +15,13 @@ use Rattle.device.specs.declared.State.{State}
 use Rattle.recorded.specs.Record.{stepOf}
 use Rattle.device.specs.State.{freshOf}
 use Rattle.device.specs.Ranges.{wellFormed}
 use Rattle.capture.specs.declared.Outcome.{Outcome}
 use Rattle.capture.specs.declared.Replayed.{Replayed}
-use Rattle.capture.specs.declared.parts.Progress.{Progress}
+use Rattle.capture_file.specs.declared.Progress.{Progress}
 use Rattle.capture.specs.Replay.{agreed, refused, valuesOf, replayFrom, replayOf}
-use Rattle.capture.specs.File.{agreeing, later, onward, ended, recordsOf, headedOf, captureOf, restOf, Ready}
+use Rattle.capture.specs.Replay.{agreeing}
+use Rattle.capture_file.specs.File.{later, onward, ended, recordsOf, headedOf, captureOf, restOf, Ready}
 use Rattle.capture.proofs.Ways.{each-way}
 
 one : (n m : ℕ) → n + suc m ≡ suc (n + m)
 one n m = omega arith

@@ -1,8 +1,8 @@
 use Prim.Native.Nat.{_-_}
 use borrow.Author.Needs.{needs}
-use Rattle.capture.proofs.parts.unread.Statement.{statement}
-use Rattle.capture.proofs.parts.unread.Tie as tie
+use Rattle.capture_file.proofs.unread.Statement.{statement}
+use Rattle.capture_file.proofs.unread.Tie as tie
 use Rattle.capture.proofs.refused.Reads as refused-reads
 use Rattle.device.proofs.fresh.Reads as fresh-reads
 
 fresh-requires : tie.Need-fresh-requires

@@ -1,7 +1,8 @@
 -- What the last part leaves is no record.
 use Rattle.recorder.proofs.Laws.{left, length-left}
-use Rattle.capture.proofs.Carried.{rest-none, last-none, last-left}
-use Rattle.capture.specs.File.{agreeing, restOf}
+use Rattle.capture_file.proofs.Carried.{rest-none, last-none, last-left}
+use Rattle.capture.specs.Replay.{agreeing}
+use Rattle.capture_file.specs.File.{restOf}
 use Prim.Native.Nat.{ℕ, _-_, _<_}
 use mathlib.Core.Path.{_≡_, refl, sym, ap, _∙_}
 use mathlib.Core.Bool.{true}
@@ -10,11 +11,11 @@ use lib.ListN.{length}
 use native.Mathlib.Omega.{arith}
 use borrow.Author.Tests.{not-true, not-false}
 use borrow.Author.Needs.{needs}
-use Rattle.capture.proofs.parts.finish.Statement.{statement}
-use Rattle.capture.proofs.parts.finish.Tie as tie
-use Rattle.capture.proofs.parts.agreeing.Reads as agreeing-reads
-use Rattle.capture.proofs.parts.go_on.Reads as go-on-reads
+use Rattle.capture_file.proofs.finish.Statement.{statement}
+use Rattle.capture_file.proofs.finish.Tie as tie
+use Rattle.capture_file.proofs.agreeing.Reads as agreeing-reads
+use Rattle.capture_file.proofs.go_on.Reads as go-on-reads
 use Rattle.capture.proofs.refused.Reads as refused-reads
 
 nothing : (xs : List ℕ) → length xs ≡ 0 → xs ≡ []
 nothing [] e = refl

@@ -1,8 +1,8 @@
 // A capture's file, whose bytes come in parts: where it stands is carried from part to part, and
 // the answer is that of the whole file, whatever the parts are.
-use crate::Outcome;
-use crate::Replayed;
-use crate::refused;
+use capture::Outcome;
+use capture::Replayed;
+use capture::refused;
 use recorder::file;
 use sheet::answer;
 ghost use mathlib.Core.Path.{_≡_};
@@ -10,9 +10,10 @@ ghost use mathlib.Core.List.{List, [], _++_};
 ghost use mathlib.Core.Bool.{true};
 ghost use Prim.Native.Nat.{ℕ, _+_, _*_, _/_, _≤_, _<_, _^_};
 ghost use lib.ListN.{length, drop};
 ghost use Rattle.capture.specs.Replay.{refused as «refused-at», valuesOf};
 ghost use Rattle.device.specs.State.{freshOf};
-ghost use Rattle.capture.specs.File.{agreeing as «is-agreeing», onward as «onward-by», captureOf, restOf, Ready};
+ghost use Rattle.capture.specs.Replay.{agreeing as «is-agreeing»};
+ghost use Rattle.capture_file.specs.File.{onward as «onward-by», captureOf, restOf, Ready};
 
 // Where a file stands: its version, how its records so far ended and in which state, and the place
 // of the next record.
@@ -108,7 +109,7 @@ pub fn go_on(p: Progress, bytes: &[u8], records: &mut [u32]) -> Progress
     let version = p.version;
     let place = p.place;
     let s = so_far.state;
-    let r = crate::replay(s, version, &records[..n]);
+    let r = capture::replay(s, version, &records[..n]);
     Progress {
         version,
         place: place + n,
