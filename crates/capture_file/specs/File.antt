@@ -1,7 +1,7 @@
 -- Replay of a whole file, from the fresh state (document 02 a), and of a file that comes in parts.
 use Prim.Native.Nat.{ℕ, _+_, _/_, _%_}
 use mathlib.Core.Path.{_≡_}
-use mathlib.Core.Bool.{Bool, true, false, cond, not, _&&_}
+use mathlib.Core.Bool.{true, cond, not, _&&_}
 use mathlib.Core.List.{List, [], _∷_}
 use lib.Dec.{eqb}
 use lib.ListN.{length, take, drop}
@@ -12,7 +12,7 @@ use Rattle.device.specs.Ranges.{wellFormed}
 use Rattle.capture.specs.declared.Outcome.{Outcome}
 use Rattle.capture.specs.declared.Replayed.{Replayed}
 use Rattle.capture_file.specs.declared.Progress.{Progress}
-use Rattle.capture.specs.Replay.{refused, replayOf}
+use Rattle.capture.specs.Replay.{refused, agreeing, replayOf}
 
 -- one to three bytes left at the end of the records' bytes: 8 at their place, where every record before agrees
 unfoldable pub ended : List ℕ → Replayed → Replayed
