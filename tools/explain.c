@@ -317,7 +317,7 @@ static void tell_refused_header(const struct utr_header *header)
     if (number == UTR_UNKNOWN_VERSION)
         fputs("Have the recorder write version 1.\n", stdout);
     else if (number == UTR_BAD_HEADER)
-        fputs("See that this is the recorder's file, not a listing (tools/capture makes a capture of\n"
+        fputs("See that this is the recorder's file, not a listing (`capture` makes a capture of\n"
               "one), an archive or part of a capture.\n",
               stdout);
     else

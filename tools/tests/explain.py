@@ -21,7 +21,7 @@ CONTEXT = 6
 LONG = 3_000_000  # records of a file that does not fit into the room
 
 CUT = "The recording or the copy of it was cut off. Copy or record again."
-OTHER = ("See that this is the recorder's file, not a listing (tools/capture makes a capture of\n"
+OTHER = ("See that this is the recorder's file, not a listing (`capture` makes a capture of\n"
          "one), an archive or part of a capture.")
 # A header that is refused, the number, and what is said.
 HEADERS = (
