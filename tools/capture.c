@@ -261,22 +261,51 @@ static void make_capture(void)
 
 /* ---- A capture into a listing ---- */
 
-#define COLUMN 20 /* of the place behind a record */
+#define COLUMN 20      /* of the place behind a record */
+#define MOST_LISTED 64 /* bytes of a line */
 
+static char *put_text(char *end, const char *text)
+{
+    size_t length = strlen(text);
+
+    memcpy(end, text, length);
+    return end + length;
+}
+
+static char *put_number(char *end, uint64_t number)
+{
+    char digits[20];
+    size_t count = 0;
+
+    do {
+        digits[count++] = (char)('0' + number % 10);
+        number /= 10;
+    } while (number > 0);
+    while (count > 0)
+        *end++ = digits[--count];
+    return end;
+}
+
+/* Put together by hand: printf would take most of the time of a long listing. */
 static void list_record(uint32_t word, uint64_t place)
 {
-    int length;
+    char line[MOST_LISTED];
+    char *end = line;
 
     if (utr_good(word)) {
         const struct utr_form *form = &utr_forms[utr_kind(word)];
 
-        length = printf("%s", form->name);
+        end = put_text(end, form->name);
         for (unsigned i = 0; i < form->count; i++)
-            length += printf(" %" PRIu32, utr_field(word, i));
+            end = put_number(put_text(end, " "), utr_field(word, i));
     } else {
-        length = printf("record 0x%08" PRIX32, word);
+        end += sprintf(end, "record 0x%08" PRIX32, word);
     }
-    printf("%*s# %" PRIu64 "\n", length < COLUMN ? COLUMN - length : 0, "", place);
+    while (end < line + COLUMN)
+        *end++ = ' ';
+    end = put_number(put_text(end, "# "), place);
+    end = put_text(end, "\n");
+    fwrite(line, 1, (size_t)(end - line), stdout);
 }
 
 static void list_capture(void)

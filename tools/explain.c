@@ -307,17 +307,15 @@ static void tell_bad_record(const struct window *window)
     }
 }
 
-static void tell_refused_header(const struct utr_header *header)
+static void tell_refused_header(const struct utr_header *header, unsigned number)
 {
-    unsigned number = utr_header_number(header);
-
     printf("refused %u 0\n\n%sNo record was replayed: ", number, red);
     utr_tell_header(stdout, header);
     printf("%s\n", plain);
     if (number == UTR_UNKNOWN_VERSION)
         fputs("Have the recorder write version 1.\n", stdout);
     else if (number == UTR_BAD_HEADER)
-        fputs("See that this is the recorder's file, not a listing (tools/capture makes a capture of\n"
+        fputs("See that this is the recorder's file, not a listing (`capture` makes a capture of\n"
               "one), an archive or part of a capture.\n",
               stdout);
     else
@@ -351,12 +349,14 @@ static enum status explain(FILE *in, const struct options *options)
     static struct window window;
     struct utr_header header = utr_read_header(in);
     long begin = options->all ? ftell(in) : 0;
+    unsigned number;
     enum status status;
 
     if (ferror(in))
         stop("reading");
-    if (utr_header_number(&header) != 0) {
-        tell_refused_header(&header);
+    number = model_header_number(header.bytes, header.count);
+    if (number != 0) {
+        tell_refused_header(&header, number);
         return REFUSED;
     }
     replay(in, &window);

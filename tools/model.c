@@ -2,6 +2,11 @@
 
 #include "utr.h"
 
+unsigned model_header_number(const uint8_t *header, size_t count)
+{
+    return uart_replay_end(uart_replay_begin(header, count), header + count, 0).values.number;
+}
+
 struct uart_state model_fresh(void)
 {
     return uart_fresh();
@@ -9,7 +14,7 @@ struct uart_state model_fresh(void)
 
 struct model_outcome model_replay(struct uart_state *state, const uint32_t *records, size_t count)
 {
-    const struct uart_replay answer = uart_replay(*state, UTR_VERSION, records, count);
+    const struct uart_replayed answer = uart_replay(*state, UTR_VERSION, records, count);
     const struct uart_values *values = &answer.values;
     struct model_outcome outcome = {MODEL_AGREED, count, values->seen, values->model};
 

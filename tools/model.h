@@ -2,7 +2,7 @@
 #ifndef MODEL_H
 #define MODEL_H
 
-#include "uart.h"
+#include "tl16c750.h"
 
 /* How a replay of some records ended: at a place in them, or after the last. */
 enum model_end { MODEL_AGREED, MODEL_DIFFERS, MODEL_BAD_RECORD };
@@ -13,6 +13,9 @@ struct model_outcome {
     uint8_t seen;
     uint8_t model;
 };
+
+/* The number by which a file that starts with these bytes is refused at its header, or 0. */
+unsigned model_header_number(const uint8_t *header, size_t count);
 
 struct uart_state model_fresh(void);
 

@@ -6,16 +6,13 @@ usage: capture.py
 """
 
 import os
-import resource
 import struct
-import subprocess
 import sys
 
-from stored import TOP, stored, utr
+import common
+from common import ROOM, TOP, stored, utr
 
-CAPTURE = os.path.join(TOP, "target", "bin", "capture")
-ROOM = 8 << 20  # bytes of address space that are enough for any file
-LONG = 3_000_000  # records of a file that does not fit into it
+LONG = 3_000_000  # records of a file that does not fit into the room
 
 # A listing, and its records.
 GOOD = (
@@ -75,16 +72,9 @@ REFUSED = (
 )
 
 
-def run(data, *arguments, limit=None, **more):
-    """Its output, its messages and its status."""
-    def limited():
-        if limit is not None:
-            resource.setrlimit(resource.RLIMIT_AS, (limit, limit))
-    streams = {"stdout": subprocess.PIPE, "stderr": subprocess.PIPE, **more}
-    if "stdin" not in streams:
-        streams["input"] = data
-    done = subprocess.run([CAPTURE, *arguments], preexec_fn=limited, check=False, **streams)
-    return done.stdout, done.stderr.decode(), done.returncode
+def run(data, *arguments, **more):
+    """What it writes, its messages and its status."""
+    return common.run("capture", data, *arguments, **more)
 
 
 def listing(words):

@@ -4,7 +4,7 @@ steps, and the names are those of the data sheet, written down here once more.""
 import os
 import subprocess
 
-from stored import SECOND, utr
+from common import SECOND, utr
 
 CALLS = os.path.join(SECOND, "calls")
 

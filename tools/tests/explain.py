@@ -11,14 +11,17 @@ import pty
 import subprocess
 import sys
 
+import common
 import expected
-from stored import TOP, answer_to, stored, utr
+from common import ROOM, TOP, answer_to, stored, utr
 
 EXPLAIN = os.path.join(TOP, "target", "bin", "explain")
+EXAMPLE = os.path.join(TOP, "examples", "run-four-emptied.utr")
 CONTEXT = 6
+LONG = 3_000_000  # records of a file that does not fit into the room
 
 CUT = "The recording or the copy of it was cut off. Copy or record again."
-OTHER = ("See that this is the recorder's file, not a listing (tools/capture makes a capture of\n"
+OTHER = ("See that this is the recorder's file, not a listing (`capture` makes a capture of\n"
          "one), an archive or part of a capture.")
 # A header that is refused, the number, and what is said.
 HEADERS = (
@@ -41,11 +44,9 @@ LEFT = (
 
 
 def run(data, *arguments, **more):
-    streams = {"stdout": subprocess.PIPE, "stderr": subprocess.PIPE, **more}
-    if "stdin" not in streams:
-        streams["input"] = data
-    done = subprocess.run([EXPLAIN, *arguments], check=False, **streams)
-    return done.stdout.decode(), done.stderr.decode(), done.returncode
+    """What it writes, its messages and its status."""
+    out, errors, status = common.run("explain", data, *arguments, **more)
+    return (out or b"").decode(), errors, status
 
 
 # ---- Captures ----
@@ -199,16 +200,15 @@ def troubles():
 
 
 def arguments_and_streams():
-    example = os.path.join(TOP, "examples", "run-four-emptied.utr")
-    with open(example, "rb") as file:
+    with open(EXAMPLE, "rb") as file:
         data = file.read()
     wrong = [arguments for arguments, said in troubles()
              if run(b"", *arguments) != ("", "explain: %s\n" % said, 2)]
     for arguments in ([], ["--all"]):
-        if not run(data, *arguments) == run(data, *arguments, "-") == run(None, *arguments, example):
+        if not run(data, *arguments) == run(data, *arguments, "-") == run(b"", *arguments, EXAMPLE):
             wrong.append(arguments + ["a file and a pipe"])
     with open("/dev/full", "wb") as full:
-        if run_to(full, example) != ("explain: writing: No space left on device\n", 2):
+        if run(data, stdout=full)[1:] != ("explain: writing: No space left on device\n", 2):
             wrong.append(["a full device"])
     if not run(b"", "--help")[0].startswith("usage: explain ") or run(b"", "--help")[1:] != ("", 0):
         wrong.append(["--help"])
@@ -217,17 +217,11 @@ def arguments_and_streams():
     return len(wrong), len(troubles()) + 4
 
 
-def run_to(out, *arguments):
-    done = subprocess.run([EXPLAIN, *arguments], stdout=out, stderr=subprocess.PIPE, check=False)
-    return done.stderr.decode(), done.returncode
-
-
 def on_terminal(no_color):
     """What a terminal gets."""
     near, far = pty.openpty()
     environment = {**os.environ, "NO_COLOR": no_color}
-    example = os.path.join(TOP, "examples", "run-four-emptied.utr")
-    child = subprocess.Popen([EXPLAIN, example], stdout=far, env=environment)
+    child = subprocess.Popen([EXPLAIN, EXAMPLE], stdout=far, env=environment)
     os.close(far)
     taken = b""
     try:
@@ -242,8 +236,7 @@ def on_terminal(no_color):
 
 def colours():
     """Colours around the same text on a terminal, none where NO_COLOR says so."""
-    example = os.path.join(TOP, "examples", "run-four-emptied.utr")
-    text = run(None, example)[0]
+    text = run(b"", EXAMPLE)[0]
     coloured = on_terminal("")
     bare = coloured
     for code in ("\033[0m", "\033[1m", "\033[1;31m"):
@@ -255,9 +248,21 @@ def colours():
     return right.count(False), len(right)
 
 
+def memory():
+    """A file larger than the memory that there is; its last read differs."""
+    words = [utr.record(utr.READ, expected.LSR, 0x60)] * (LONG - 1) + [utr.record(utr.READ, expected.LSR, 0)]
+    data = utr.capture(words)
+    assert len(data) > ROOM
+    out, errors, status = run(data, limit=ROOM)
+    right = not errors and status == 1 and out.startswith("differs %d 0 96\n" % (LONG - 1))
+    if not right:
+        print("a long capture is not explained in %d bytes" % ROOM)
+    return 0 if right else 1, 1
+
+
 def main():
     wrong = count = 0
-    for part in (captures, headers, arguments_and_streams, colours):
+    for part in (captures, headers, arguments_and_streams, colours, memory):
         bad, done = part()
         wrong += bad
         count += done
