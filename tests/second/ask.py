@@ -16,19 +16,20 @@ import time
 GUARD = 120
 
 
-def answer(program, data):
-    """The answer to an input that waits as a whole."""
-    done = subprocess.run([program], input=data, stdout=subprocess.PIPE, stderr=subprocess.STDOUT,
-                          timeout=GUARD, check=False)
+def ended(program, **source):
+    """The answer of a program that is left to itself with its input."""
+    done = subprocess.run([program], stdout=subprocess.PIPE, stderr=subprocess.STDOUT,
+                          timeout=GUARD, check=False, **source)
     return done.stdout, done.returncode
+
+
+def answer(program, data):
+    return ended(program, input=data)
 
 
 def answer_from_file(program, name):
-    """The answer to an input that is a file."""
     with open(name, "rb") as source:
-        done = subprocess.run([program], stdin=source, stdout=subprocess.PIPE,
-                              stderr=subprocess.STDOUT, timeout=GUARD, check=False)
-    return done.stdout, done.returncode
+        return ended(program, stdin=source)
 
 
 def answer_lines(program, lines):

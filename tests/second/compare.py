@@ -8,8 +8,8 @@ Scripts and captures are drawn from the seed (draws.py). CALLS_B, the second pro
 reads of the captures. At the first difference of a script it prints the calls that lead there, from
 the last `fresh` or `load` on, and both answers. A capture goes to both programs from a file and
 through a pipe in odd pieces; one that is answered differently is saved and named. Ends with 1 at a
-difference, or where less than a third of the captures is answered `differs`; else it prints how much
-was compared and ends with 0.
+difference, or where less than a third of the captures is answered `differs`; else it prints how
+much was compared and ends with 0.
 """
 
 import argparse

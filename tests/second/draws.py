@@ -423,6 +423,10 @@ def damage_record(pick, words):
         words[place] = pick(BIG + 1)
 
 
+def unknown_version(pick):
+    return (0, 2, 3, 256, 257, 65535)[pick(6)]
+
+
 def replay_segment(recorder):
     """Replays from a state near boundaries or from fresh, most of them agreed."""
     def segment(pick, lines):
@@ -431,7 +435,7 @@ def replay_segment(recorder):
         words = record_steps(pick, recorder, (1 + pick(5), pick(40), pick(300), 1024 - pick(2))[pick(4)])
         for _ in range(pick(3) if words else 0):
             damage_record(pick, words)
-        version = 1 if pick(12) else (0, 2, 3, 256, 257, 65535)[pick(6)]
+        version = utr.VERSION if pick(12) else unknown_version(pick)
         lines.append(start)
         lines.append(" ".join(map(str, ["replay", version, *words])))
         lines.append("state")
@@ -471,7 +475,9 @@ def capture_size(pick):
 
 
 def damage_header(pick, data):
-    """One or two of its bytes."""
+    """An unknown version, or one or two bits of any of its bytes."""
+    if pick(3) == 0:
+        return utr.header(unknown_version(pick)) + data[8:]
     damaged = bytearray(data)
     for _ in range(1 + pick(2)):
         damaged[pick(8)] ^= 1 << pick(8)
@@ -498,13 +504,13 @@ def draw_capture(pick, recorder):
     recorder.start()
     words = record_steps(pick, recorder, capture_size(pick))
     chance = pick(20)
-    if words and chance < 7:
+    if words and chance < 4:
         for _ in range(1 + pick(2)):
             damage_record(pick, words)
     data = utr.capture(words)
-    if chance in (7, 8, 9):
+    if 4 <= chance < 10:
         data = damage_header(pick, data)
-    if chance in (9, 10):
+    if 8 <= chance < 11:
         data = data[:pick(9)]
     elif pick(10) == 0:
         data = data[:-1 - pick(7)]
