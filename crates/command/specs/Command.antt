@@ -1,5 +1,5 @@
 -- What a line says: the table of the protocol, row by row.
-use Prim.Native.Nat.{ℕ, _+_}
+use Prim.Native.Nat.{ℕ, _+_, _*_}
 use Prim.Native.String.{String}
 use mathlib.Core.Bool.{Bool, true, false, cond, _&&_}
 use mathlib.Core.List.{List, [], _∷_, map}
@@ -21,6 +21,11 @@ mostRecords = 1024
 -- the most numbers that a line has: a version and its records
 abbrev pub mostNumbers : ℕ
 mostNumbers = mostRecords + 1
+
+-- the longest line that is a command: `replay` with a version of five digits, and a space and ten digits for each of
+-- its records
+abbrev pub longestLine : ℕ
+longestLine = length (text "replay") + 1 + 5 + 11 * mostRecords
 
 -- What the words after the first make of a command: their numbers have to be as many as it takes, each in its range.
 

@@ -16,6 +16,10 @@ ghost use Rattle.command.specs.Command.{mostNumbers, numbersIn, valuesOf
 // The most numbers that a line has: a version and 1,024 records.
 pub const MOST_NUMBERS: usize = 1025;
 
+// The longest line that is no `bad`: `replay`, a space, a version of five digits, and a space and
+// ten digits for each record.
+pub const LONGEST_LINE: usize = 12 + 11 * (MOST_NUMBERS - 1);
+
 // A call that moves the current state by a step.
 pub enum Call {
     Reset,
