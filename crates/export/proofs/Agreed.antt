@@ -1,17 +1,25 @@
 -- A replay whose number is 0 and whose two bytes are the same agreed: where a read differs, they are not.
-use Prim.Native.Nat.{ℕ}
-use mathlib.Core.Path.{_≡_, refl, sym, ap, _∙_}
+use Prim.Native.Nat.{ℕ, _/_, _%_, _<_}
+use mathlib.Core.Path.{_≡_, refl, sym, ap, subst, _∙_}
 use mathlib.Core.Bool.{Bool, true, false, cond, not, _&&_, true≢false}
-use mathlib.Core.List.{List}
+use mathlib.Core.List.{List, [], _∷_}
+use lib.Dec.{eqb}
+use lib.ListN.{length, take, drop}
 use native.Mathlib.Omega.{arith}
 use borrow.Author.Tests.{eq-eqb}
 use Rattle.recorder.specs.Record.{byte, isRead}
-use Rattle.recorder.specs.File.{known}
+use Rattle.recorder.specs.File.{wordsOf, goodHeader, version, known}
+use Rattle.device.specs.State.{freshOf}
 use Rattle.device.specs.declared.State.{State}
 use Rattle.device.specs.Ranges.{wellFormed}
 use Rattle.capture.specs.declared.Outcome.{Outcome}
-use Rattle.capture.specs.Replay.{refused, valuesOf, modelByte, differing, replayFrom, replayOf}
+use Rattle.capture.specs.Replay.{refused, agreeing, modelByte, differing, replayFrom, replayOf}
+use Rattle.capture_file.specs.File.{later, onward, ended, recordsOf, headedOf, captureOf, restOf}
+use Rattle.capture.specs.declared.Replayed.{Replayed}
+use Rattle.capture_file.specs.declared.Progress.{Progress}
 use Rattle.capture.proofs.Ways.{each-way}
+use Rattle.capture_file.proofs.Carried.{rest-none, is-agreed}
+use Rattle.export.specs.Replay.{Told}
 
 and-false : (b : Bool) → b && false ≡ false
 and-false true = refl
@@ -22,14 +30,10 @@ unfolding differing
 apart s w d e =
     true≢false (sym d ∙ ap (λ (b : Bool). isRead w && not b) (eq-eqb _ _ e) ∙ and-false (isRead w))
 
--- what the values say of the outcome
-abbrev pub Says : Outcome → Type 0
-Says o = valuesOf o .number ≡ 0 → valuesOf o .seen ≡ valuesOf o .model → o ≡ Outcome.Agreed
-
-records-say : (ws : List ℕ) (place : ℕ) (s : State) → Says (replayFrom place s ws .outcome)
+records-told : (ws : List ℕ) (place : ℕ) (s : State) → Told (replayFrom place s ws .outcome)
 unfolding replayFrom
-records-say =
-    each-way (λ place s ws r. Says (r .outcome))
+records-told =
+    each-way (λ place s ws r. Told (r .outcome))
     (record {
       end = λ place s z e. refl;
       bad = λ place s w ws g z e. absurd (omega (arith, simp g at z));
@@ -37,11 +41,61 @@ records-say =
       next = λ place s w ws g d more. simp (g, d) more;
     })
 
-pub values-say : (version : ℕ) (s : State) (ws : List ℕ) → Says (replayOf version s ws .outcome)
+pub replay-told : (version : ℕ) (s : State) (ws : List ℕ) → Told (replayOf version s ws .outcome)
 unfolding replayOf
-values-say version s ws = go (wellFormed s) (known version)
+replay-told version s ws = go (wellFormed s) (known version)
   where
-    go : (w k : Bool) → Says (cond w (cond k (replayFrom 0 s ws) (refused 7 s 0)) (refused 1 s 0) .outcome)
-    go true true = records-say ws 0 s
+    go : (w k : Bool) → Told (cond w (cond k (replayFrom 0 s ws) (refused 7 s 0)) (refused 1 s 0) .outcome)
+    go true true = records-told ws 0 s
     go true false = λ z e. absurd (omega (arith, z))
     go false k = λ z e. absurd (omega (arith, z))
+
+-- The same of a file, and of a file that comes in parts.
+
+later-told : (n : ℕ) (o : Outcome) → Told o → Told (later n o)
+later-told n Outcome.Agreed t = λ z e. refl
+later-told n (Outcome.Differs place seen model) t = λ z e. ap (later n) (t z e)
+later-told n (Outcome.Refused number place) t = λ z e. ap (later n) (t z e)
+
+pub refused-told : (number place : ℕ) → 0 < number → Told (Outcome.Refused number place)
+refused-told number place h = λ z e. absurd (omega (arith, z, h))
+
+ended-told : (bytes : List ℕ) (r : Replayed) → Told (r .outcome) → Told (ended bytes r .outcome)
+unfolding ended
+ended-told bytes r t = go (agreeing (r .outcome) && not (eqb (length bytes % 4) 0))
+  where
+    go : (b : Bool) → Told (cond b (refused 8 (r .state) (length bytes / 4)) r .outcome)
+    go true = refused-told 8 (length bytes / 4) (omega arith)
+    go false = t
+
+records-of-told : (version : ℕ) (s : State) (bytes : List ℕ) → Told (recordsOf version s bytes .outcome)
+unfolding recordsOf
+records-of-told version s bytes = ended-told bytes (replayOf version s (wordsOf bytes)) (replay-told version s (wordsOf bytes))
+
+pub capture-told : (bytes : List ℕ) → Told (captureOf bytes .outcome)
+unfolding captureOf headedOf
+capture-told bytes = go (wordsOf (take 8 bytes))
+  where
+    test : (b : Bool) (v : ℕ) → Told (cond b (recordsOf (version v) freshOf (drop 8 bytes)) (refused 6 freshOf 0) .outcome)
+    test true v = records-of-told (version v) freshOf (drop 8 bytes)
+    test false v = refused-told 6 0 (omega arith)
+
+    go : (ws : List ℕ) → Told (headedOf ws (drop 8 bytes) .outcome)
+    go [] = refused-told 8 0 (omega arith)
+    go (w ∷ []) = refused-told 8 0 (omega arith)
+    go (w ∷ v ∷ ws) = test (goodHeader w v) v
+
+pub rest-told : (p : Progress) (bytes : List ℕ) → Told (p .replayed .outcome) → Told (restOf p bytes .outcome)
+unfolding restOf
+rest-told p bytes t = go (agreeing (p .replayed .outcome))
+  where
+    go : (b : Bool) → Told (cond b (onward (p .place) (recordsOf (p .version) (p .replayed .state) bytes)) (p .replayed) .outcome)
+    go true = later-told (p .place) _ (records-of-told (p .version) (p .replayed .state) bytes)
+    go false = t
+
+pub told-by-rest : (p : Progress) (bytes : List ℕ) → Told (restOf p bytes .outcome) → Told (p .replayed .outcome)
+told-by-rest p bytes t = go (agreeing (p .replayed .outcome)) refl
+  where
+    go : (b : Bool) → agreeing (p .replayed .outcome) ≡ b → Told (p .replayed .outcome)
+    go true e = λ z f. is-agreed (p .replayed .outcome) e
+    go false e = subst (λ (r : Replayed). Told (r .outcome)) (rest-none p bytes e) t

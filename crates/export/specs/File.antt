@@ -10,7 +10,7 @@ use Rattle.capture.specs.Replay.{refused, valuesOf}
 use Rattle.capture_file.specs.File.{restOf}
 use Rattle.export.specs.declared.Replay.{Replay}
 use Rattle.export.specs.declared.file.Progress.{Progress}
-use Rattle.export.specs.Replay.{replayAnswer}
+use Rattle.export.specs.Replay.{replayAnswer, Told}
 
 -- what stopped a replay: 0 nothing so far, 1 a read that differs, 2 a refusal
 abbrev pub stoppedBy : Outcome → ℕ
@@ -43,6 +43,10 @@ handedOf p =
       values = valuesOf (p .replayed .outcome);
       state = p .replayed .state;
     }
+
+-- what a client has of the outcome so far tells it
+abbrev pub ToldSoFar : Progress → Type 0
+ToldSoFar p = Told (carriedOf p .replayed .outcome)
 
 -- a file of more records than 2^62: refused with 1 at place 0, the state as it was
 abbrev pub beyondOf : Progress → Progress

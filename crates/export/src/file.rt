@@ -14,7 +14,7 @@ ghost use lib.ListN.{length, drop};
 ghost use Rattle.capture.specs.Replay.{refused as «refused-at»};
 ghost use Rattle.capture_file.specs.File.{captureOf, restOf};
 ghost use Rattle.export.specs.Replay.{replayAnswer};
-ghost use Rattle.export.specs.File.{stoppedBy, outcomeOf, carriedOf, handedOf, beyondOf, restAnswer};
+ghost use Rattle.export.specs.File.{stoppedBy, outcomeOf, carriedOf, handedOf, beyondOf, restAnswer, ToldSoFar};
 
 // The most records of a file, 2^62; no file has as many.
 const MOST: usize = 4611686018427387904;
@@ -141,14 +141,16 @@ fn too_many(p: Progress) -> Replay
     Replay { values, state }
 }
 
-// The file that begins with these bytes, which are its header, or all of it where it is shorter.
+// The file that begins with these bytes: their first eight are its header, and what follows comes
+// again with the next part. Where they are fewer they are all of the file.
 #[no_mangle]
-pub extern "C" fn uart_replay_begin(header: &[u8]) -> Progress
-    ensures { λ r. ⌜ (length (now (header .entry)) ≡ 8 → (rest : List ℕ) → restAnswer r rest ≡ replayAnswer (captureOf (now (header .entry) ++ rest))) ⌝ }
-    ensures { λ r. ⌜ (length (now (header .entry)) < 8 → restAnswer r [] ≡ replayAnswer (captureOf (now (header .entry)))) ⌝ }
+pub extern "C" fn uart_replay_begin(first: &[u8]) -> Progress
+    ensures { λ r. ⌜ (8 ≤ length (now (first .entry)) → (rest : List ℕ) → restAnswer r (drop 8 (now (first .entry)) ++ rest) ≡ replayAnswer (captureOf (now (first .entry) ++ rest))) ⌝ }
+    ensures { λ r. ⌜ (length (now (first .entry)) < 8 → restAnswer r [] ≡ replayAnswer (captureOf (now (first .entry)))) ⌝ }
     ensures { λ r. ⌜ r .done ≡ 0 ⌝ }
+    ensures { λ r. ⌜ ToldSoFar r ⌝ }
 {
-    let p = capture_file::begin(header);
+    let p = capture_file::begin(first);
     handed(p)
 }
 
@@ -159,6 +161,7 @@ pub extern "C" fn uart_replay_more(p: Progress, bytes: &[u8]) -> Progress
     ensures { λ r. ⌜ (p .done + length (now (bytes .entry)) / 4 ≤ 2 ^ 62 → (rest : List ℕ) → restAnswer r (drop (4 * (length (now (bytes .entry)) / 4)) (now (bytes .entry)) ++ rest) ≡ restAnswer p (now (bytes .entry) ++ rest)) ⌝ }
     ensures { λ r. ⌜ (2 ^ 62 < p .done + length (now (bytes .entry)) / 4 → r ≡ beyondOf p) ⌝ }
     ensures { λ r. ⌜ r .done ≤ p .done + length (now (bytes .entry)) / 4 ⌝ }
+    ensures { λ r. ⌜ (ToldSoFar p → ToldSoFar r) ⌝ }
 {
     let done = p.done;
     let records = bytes.len() / 4;
@@ -178,6 +181,7 @@ pub extern "C" fn uart_replay_more(p: Progress, bytes: &[u8]) -> Progress
 pub extern "C" fn uart_replay_end(p: Progress, bytes: &[u8]) -> Replay
     ensures { λ r. ⌜ (p .done + length (now (bytes .entry)) / 4 ≤ 2 ^ 62 → r ≡ restAnswer p (now (bytes .entry))) ⌝ }
     ensures { λ r. ⌜ (2 ^ 62 < p .done + length (now (bytes .entry)) / 4 → r ≡ replayAnswer («refused-at» 1 (p .state) 0)) ⌝ }
+    ensures agreed { λ r. ⌜ (ToldSoFar p → r .values .number ≡ 0 → r .values .seen ≡ r .values .model → restOf (carriedOf p) (now (bytes .entry)) .outcome ≡ Outcome.Agreed) ⌝ }
 {
     let done = p.done;
     let records = bytes.len() / 4;

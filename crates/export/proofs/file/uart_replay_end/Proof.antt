@@ -1,12 +1,11 @@
 -- All whole records, and then what is left; a file of too many records is refused.
-use Rattle.export.proofs.Parts.{ends}
-use Prim.Native.Nat.{ℕ, _+_, _-_, _*_, _/_, _≤_, _<_}
-use mathlib.Core.Path.{_≡_, sym, ap, _∙_}
-use mathlib.Core.List.{List, _++_}
-use lib.ListN.{length, take, drop}
+use Rattle.export.proofs.Parts.{ends, end-told, too-many-told}
+use Rattle.export.specs.File.{restAnswer}
+use Prim.Native.Nat.{_+_, _-_, _*_, _/_, _≤_}
+use mathlib.Core.Path.{_≡_, ap, _∙_}
+use lib.ListN.{length}
 use native.Mathlib.Omega.{arith}
 use borrow.Author.Needs.{needs}
-use Rattle.capture.specs.declared.Replayed.{Replayed}
 use Rattle.capture_file.specs.declared.Progress as parts
 use Rattle.export.specs.declared.file.Progress.{Progress}
 use Rattle.export.specs.Replay.{replayAnswer}
@@ -17,13 +16,13 @@ too-many-requires : tie.Need-too-many-requires
 too-many-requires c κs = search needs
 
 returns : tie.Need-returns
-returns c = (λ h. absurd (omega (arith, h, c .before .if1 .taken)), λ h. c .too-many .ensures)
+returns c = (λ h. absurd (omega (arith, h, c .before .if1 .taken)), (λ h. c .too-many .ensures, λ t. too-many-told (c .before .before .before .args .p .state) (c .too-many .result) _ (c .too-many .ensures)))
 
 too-many-requires-2 : tie.Need-too-many-requires-2
 too-many-requires-2 c κs = search needs
 
 returns-2 : tie.Need-returns-2
-returns-2 c = (λ h. absurd (omega (arith, h, c .before .if2 .taken)), λ h. c .too-many2 .ensures)
+returns-2 c = (λ h. absurd (omega (arith, h, c .before .if2 .taken)), (λ h. c .too-many2 .ensures, λ t. too-many-told (c .before .before .before .before .args .p .state) (c .too-many2 .result) _ (c .too-many2 .ensures)))
 
 carried-requires : tie.Need-carried-requires
 carried-requires c κs = search needs
@@ -62,13 +61,17 @@ returns-3 c =
     let start = c .before .before .before .before .before .before .before .before .before .before in
     let bytes = start .args .bytes .now in
     let n = length bytes - 4 * (length bytes / 4) in
-    let all : length bytes ≤ 4 * (length bytes / 4) + n = omega arith in
+    let whole : length bytes ≤ 4 * (length bytes / 4) + n = omega arith in
     let blocks = c .before .before .before .before .before .replay-blocks in
-    let begun = c .before .before .before .before .before .before .carried in (
-      λ h.
-          c .answered .ensures
-          ∙ ap replayAnswer (c .before .before .finish .ensures ∙ ends (start .args .p) (begun .result) (blocks .result) bytes n all (begun .ensures) (blocks .ensures .0)),
-      λ h. absurd (omega (arith, h, c .before .before .before .before .before .before .before .if2 .left, c .before .before .before .before .before .before .before .before .if1 .left)),
+    let begun = c .before .before .before .before .before .before .carried in
+    let all : c .answered .result ≡ restAnswer (start .args .p) bytes =
+    c .answered .ensures ∙ ap replayAnswer (c .before .before .finish .ensures ∙ ends (start .args .p) (begun .result) (blocks .result) bytes n whole (begun .ensures) (blocks .ensures .0))
+    in (
+      λ h. all,
+      (
+        λ h. absurd (omega (arith, h, c .before .before .before .before .before .before .before .if2 .left, c .before .before .before .before .before .before .before .before .if1 .left)),
+        λ t. end-told (start .args .p) (c .answered .result) bytes all t,
+      ),
     )
 
 pub uart-replay-end-spec : {M : Type 1} → statement M
