@@ -1,4 +1,4 @@
-# The library, the programs and the clients: `make` builds them, `make install PREFIX=..` puts them
+# The library, the programs, the tools and the clients: `make` builds them, `make install PREFIX=..` puts them
 # where users look, `make uninstall PREFIX=..` takes them away. `rt` proves what it compiles.
 PREFIX = /usr/local
 PYTHON = python3
@@ -15,6 +15,7 @@ PYTHON_VERSION = $(shell $(PYTHON) -c 'import sys; print("%d.%d" % sys.version_i
 sources_of = $(wildcard $(patsubst %,crates/%/src/*.rt,$1 $(shell sed -n 's/^$1://p' crates.txt)))
 
 PROGRAMS = calls replay
+TOOLS = capture explain
 ARCHIVE = target/staticlib/libexport.a
 STATIC = $(OUT)/libtl16c750.a
 SHARED = $(OUT)/libtl16c750.so
@@ -25,11 +26,14 @@ PACKAGE = $(DESTDIR)$(PYTHONDIR)/tl16c750
 # $(call quietly,NAME,COMMAND): what the command writes goes to a file, and is shown where it fails.
 quietly = @mkdir -p $(OUT) && echo '$2' && { $2 >$(OUT)/$1.log 2>&1 || { cat $(OUT)/$1.log; exit 1; }; }
 
-all: library programs
+all: library programs tools
 
 library: $(STATIC) $(SHARED)
 
 programs: $(PROGRAMS:%=target/bin/%)
+
+tools: $(ARCHIVE)
+	@$(MAKE) -s -C tools all
 
 $(ARCHIVE): $(call sources_of,export)
 	$(call quietly,staticlib,rt staticlib export)
@@ -50,7 +54,7 @@ target/bin/%:
 
 install: all
 	install -d $(DESTDIR)$(PREFIX)/bin $(DESTDIR)$(PREFIX)/include $(DESTDIR)$(PREFIX)/lib/pkgconfig
-	install -m 755 $(PROGRAMS:%=target/bin/%) $(DESTDIR)$(PREFIX)/bin
+	install -m 755 $(PROGRAMS:%=target/bin/%) $(TOOLS:%=target/bin/%) $(DESTDIR)$(PREFIX)/bin
 	install -m 644 $(HEADER) $(DESTDIR)$(PREFIX)/include
 	install -m 644 $(STATIC) $(DESTDIR)$(PREFIX)/lib
 	install -m 755 $(SHARED) $(DESTDIR)$(PREFIX)/lib/libtl16c750.so.$(LAYOUT)
@@ -67,10 +71,10 @@ install: all
 	install -m 644 clients/rust/examples/*.rs $(SHARE)/rust/examples
 
 uninstall:
-	rm -f $(PROGRAMS:%=$(DESTDIR)$(PREFIX)/bin/%)
+	rm -f $(PROGRAMS:%=$(DESTDIR)$(PREFIX)/bin/%) $(TOOLS:%=$(DESTDIR)$(PREFIX)/bin/%)
 	rm -f $(DESTDIR)$(PREFIX)/include/tl16c750.h
 	rm -f $(DESTDIR)$(PREFIX)/lib/libtl16c750.a $(DESTDIR)$(PREFIX)/lib/libtl16c750.so*
 	rm -f $(DESTDIR)$(PREFIX)/lib/pkgconfig/tl16c750.pc
 	rm -rf $(PACKAGE) $(SHARE)
 
-.PHONY: all library programs install uninstall
+.PHONY: all library programs tools install uninstall
