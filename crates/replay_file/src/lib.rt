@@ -1,13 +1,18 @@
 // Reads a capture from a file descriptor, 8,192 records at a time, replays it from the fresh state,
 // and writes how that ended.
-use capture::Outcome;
+mod answer;
+mod progress;
+
+pub use answer::tell;
 use capture::Replayed;
 use capture_file::Progress;
-use libc::STDERR_FILENO;
-use libc::STDOUT_FILENO;
+use progress::Watch;
 ghost use mathlib.Core.Path.{_≡_};
+ghost use mathlib.Core.Bool.{false};
+ghost use Prim.Native.Nat.{_≤_};
 ghost use lib.ListN.{length};
 ghost use Rattle.io.specs.Counts.{Counts};
+ghost use Rattle.replay_file.specs.Captures.{OfRest, OfFile};
 
 // More blocks than any run reads. A proved loop has to end, so it counts down from here.
 const BLOCKS: usize = 1125899906842624;
@@ -22,6 +27,7 @@ struct Filled {
 struct Judged {
     replayed: Replayed,
     failed: bool,
+    watch: Watch,
 }
 
 // Reads until the block is full, the input ends or a read fails.
@@ -53,12 +59,20 @@ fn fill(fd: i32, block: &mut [u8]) -> Filled
 }
 
 // Replays the records that follow the header, block by block.
-fn replay_blocks(fd: i32, begun: Progress, block: &mut [u8], records: &mut [u32]) -> Judged
+fn replay_blocks(
+    fd: i32,
+    begun: Progress,
+    block: &mut [u8],
+    records: &mut [u32],
+    started: Watch,
+) -> Judged
     requires { ⌜ begun .place ≡ 0 ⌝ }
     requires { ⌜ length (now block) ≡ 32768 ⌝ }
     requires { ⌜ length (now records) ≡ 8192 ⌝ }
+    ensures { λ r. ⌜ (r .failed ≡ false → OfRest begun (r .replayed)) ⌝ }
 {
     let mut p = begun;
+    let mut watch = started;
     let mut blocks = BLOCKS;
     while 0 < blocks {
         let so_far = p.replayed;
@@ -67,6 +81,7 @@ fn replay_blocks(fd: i32, begun: Progress, block: &mut [u8], records: &mut [u32]
             return Judged {
                 replayed: so_far,
                 failed: false,
+                watch,
             };
         }
         let f = fill(fd, block);
@@ -75,26 +90,32 @@ fn replay_blocks(fd: i32, begun: Progress, block: &mut [u8], records: &mut [u32]
             return Judged {
                 replayed: so_far,
                 failed: true,
+                watch,
             };
         }
         if n < block.len() {
             return Judged {
                 replayed: capture_file::finish(p, &block[..n], records),
                 failed: false,
+                watch,
             };
         }
         p = capture_file::go_on(p, block, records);
+        watch = progress::tell(watch, p.place);
         blocks -= 1;
     }
-    let replayed = p.replayed;
     Judged {
-        replayed,
+        replayed: capture_file::finish(p, &block[..0], records),
         failed: false,
+        watch,
     }
 }
 
 // The answer for the capture that a file descriptor gives.
-fn judge(fd: i32) -> Judged {
+fn judge(fd: i32) -> Judged
+    ensures { λ r. ⌜ (r .failed ≡ false → OfFile (r .replayed)) ⌝ }
+{
+    let watch = progress::start();
     let mut header = [0u8; 8];
     let mut block = [0u8; 32768];
     let mut records = [0u32; 8192];
@@ -106,29 +127,37 @@ fn judge(fd: i32) -> Judged {
         return Judged {
             replayed,
             failed: true,
+            watch,
         };
     }
-    replay_blocks(fd, p, &mut block, &mut records)
+    if n < 8 {
+        return Judged {
+            replayed: capture_file::finish(p, &header[..0], &mut records),
+            failed: false,
+            watch,
+        };
+    }
+    replay_blocks(fd, p, &mut block, &mut records, watch)
 }
 
-// Writes the line that says how a replay ended, and answers whether it could be written.
-fn say(o: Outcome) -> bool {
-    let mut line = [0u8; 40];
-    let end = outcome::put_outcome(o, &mut line, 0);
-    io::write_all(STDOUT_FILENO, &line[..end])
-}
-
-// Replays the capture that a file descriptor gives, and writes how it ended. Where reading or
-// writing fails, standard error gets a message.
-pub fn replay(fd: i32) {
+// Replays the capture that a file descriptor gives, and writes how it ended, after its name where
+// there are several. Where reading or writing fails, standard error says why. Answers whether the
+// answer could be written.
+pub fn replay(fd: i32, several: bool, name: &[u8]) -> bool
+    requires { ⌜ length (now name) ≤ 4096 ⌝ }
+{
     let j = judge(fd);
+    let watch = j.watch;
+    progress::stop(watch);
     if j.failed {
-        io::write_all(STDERR_FILENO, b"replay: the capture cannot be read\n");
-        return;
+        tell(name);
+        return true;
     }
     let r = j.replayed;
     let o = r.outcome;
-    if !say(o) {
-        io::write_all(STDERR_FILENO, b"replay: the answer cannot be written\n");
+    if answer::say(several, name, o) {
+        return true;
     }
+    tell(b"standard output");
+    false
 }

@@ -19,7 +19,7 @@ fn main() {
         if fd < 0 {
             return;
         }
-        replay_file::replay(fd);
+        replay_file::replay(fd, false, &path);
         libc::close(fd);
         n += 1;
     }

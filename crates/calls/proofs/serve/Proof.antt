@@ -1,5 +1,6 @@
--- The buffers keep their lengths, and what is kept lies within the block.
-use Prim.Native.Nat.{_≤_}
+-- The buffers keep their lengths, and no more is held than a line needs.
+use Rattle.command.specs.Command.{longestLine}
+use Prim.Native.Nat.{suc, _≤_}
 use mathlib.Core.Path.{_≡_, _∙_}
 use lib.ListN.{length}
 use borrow.Author.Needs.{needs}
@@ -7,7 +8,7 @@ use Rattle.calls.proofs.serve.Statement.{statement}
 use Rattle.calls.proofs.serve.Tie as tie
 
 abbrev Inv-loop : tie.InvT-loop
-Inv-loop block₀ numbers₀ kept₀ out₀ t₀ turns₀ block numbers kept out t turns = (length numbers ≡ length numbers₀) × ((length kept ≡ length kept₀) × ((length out ≡ length out₀) × ((length block ≡ length block₀) × (t .used ≤ length block))))
+Inv-loop block₀ numbers₀ kept₀ out₀ t₀ turns₀ block numbers kept out t turns = (length numbers ≡ length numbers₀) × ((length kept ≡ length kept₀) × ((length out ≡ length out₀) × ((length block ≡ length block₀) × (t .used ≤ suc longestLine))))
 
 abbrev μ-loop : tie.MeasureT-loop
 μ-loop block₀ numbers₀ kept₀ out₀ t₀ turns₀ block numbers kept out t turns = turns
@@ -49,7 +50,7 @@ loop-again c =
       t .kept .1 .1 .0 ∙ i .0,
       (
         t .kept .1 .1 .1 .0 ∙ i .1 .0,
-        (t .kept .1 .1 .1 .1 .0 ∙ i .1 .1 .0, (t .kept .1 .0 ∙ i .1 .1 .1 .0, t .ensures)),
+        (t .kept .1 .1 .1 .1 .0 ∙ i .1 .1 .0, (t .kept .1 .0 ∙ i .1 .1 .1 .0, t .ensures .1)),
       ),
     )
 

@@ -1,20 +1,23 @@
--- The buffers keep their lengths, and the place stays far below its bound.
+-- The bytes read so far lead to `p`; the buffers keep their lengths, and the place stays far below its bound.
 use Prim.Native.Nat.{_+_, _*_, _≤_}
-use mathlib.Core.Path.{_≡_}
+use mathlib.Core.Path.{_≡_, sym, _∙_}
+use mathlib.Core.Bool.{false≢true}
 use lib.ListN.{length}
+use Rattle.replay_file.proofs.Blocks.{Read, read-none, read-block, read-stands, read-ends}
+use borrow.Author.Tests.{not-true}
 use native.Mathlib.Omega.{arith}
 use borrow.Author.Needs.{needs}
 use Rattle.replay_file.proofs.replay_blocks.Statement.{statement}
 use Rattle.replay_file.proofs.replay_blocks.Tie as tie
 
 abbrev Inv-loop : tie.InvT-loop
-Inv-loop fd block₀ records₀ p₀ blocks₀ block records p blocks = (length block ≡ 32768) × (length records ≡ 8192) × (p .place + 8192 * blocks ≤ 9223372036854775808)
+Inv-loop fd block₀ records₀ p₀ watch₀ blocks₀ block records p watch blocks = (length block ≡ 32768) × (length records ≡ 8192) × (p .place + 8192 * blocks ≤ 9223372036854775808) × Read p₀ p
 
 abbrev μ-loop : tie.MeasureT-loop
-μ-loop fd block₀ records₀ p₀ blocks₀ block records p blocks = blocks
+μ-loop fd block₀ records₀ p₀ watch₀ blocks₀ block records p watch blocks = blocks
 
 loop-holds : tie.Need-loop-holds Inv-loop μ-loop
-loop-holds c = search needs
+loop-holds c = (search needs, search needs, search needs, read-none _)
 
 agreeing-requires : tie.Need-agreeing-requires Inv-loop μ-loop
 agreeing-requires c κs = search needs
@@ -26,7 +29,7 @@ same-length-2 : tie.Need-same-length-2 Inv-loop μ-loop
 same-length-2 c = search needs
 
 returns : tie.Need-returns Inv-loop μ-loop
-returns c = search needs
+returns c = λ _. read-stands (c .before .before .before .before .loop .inv .3) (sym (c .before .agreeing .ensures) ∙ not-true _ (c .if1 .taken))
 
 fill-requires : tie.Need-fill-requires Inv-loop μ-loop
 fill-requires c κs = search needs
@@ -38,7 +41,7 @@ same-length-4 : tie.Need-same-length-4 Inv-loop μ-loop
 same-length-4 c = search needs
 
 returns-2 : tie.Need-returns-2 Inv-loop μ-loop
-returns-2 c = search needs
+returns-2 c = λ e. absurd (false≢true (sym e))
 
 slice-reshare-prefix-finish : tie.Need-slice-reshare-prefix-finish Inv-loop μ-loop
 slice-reshare-prefix-finish c = search needs
@@ -56,7 +59,7 @@ same-length-6 : tie.Need-same-length-6 Inv-loop μ-loop
 same-length-6 c = omega (arith, c .before .before .finish .kept .1 .1 .0, c .before .before .before .before .before .before .before .before .before .before .before .before .before .before .before .loop .inv .1, c .before .before .before .before .before .before .before .before .before .before .before .before .before .before .before .before .before .before .pre .1)
 
 returns-3 : tie.Need-returns-3 Inv-loop μ-loop
-returns-3 c = search needs
+returns-3 c = λ _. read-ends (c .before .before .before .before .before .before .before .before .before .before .before .before .before .before .before .loop .inv .3) _ _ (c .before .before .finish .ensures)
 
 go-on-requires : tie.Need-go-on-requires Inv-loop μ-loop
 go-on-requires c κs = search needs
@@ -68,7 +71,10 @@ loop-less : tie.Need-loop-less Inv-loop μ-loop
 loop-less c = search needs
 
 loop-again : tie.Need-loop-again Inv-loop μ-loop
-loop-again c = search needs
+loop-again c =
+    let inv = c .before .before .before .before .before .before .before .before .before .before .before .before .before .before .before .before .loop .inv in
+    let fill = c .before .before .before .before .before .before .before .before .before .before .fill in
+    (search needs, search needs, search needs, read-block (inv .3) (c .before .before .before .go-on .result) (fill .last .1 .0) (fill .kept .1 .0 ∙ inv .0) (c .before .before .before .go-on .ensures .0))
 
 same-length-7 : tie.Need-same-length-7 Inv-loop μ-loop
 same-length-7 c = search needs
@@ -77,7 +83,19 @@ same-length-8 : tie.Need-same-length-8 Inv-loop μ-loop
 same-length-8 c = search needs
 
 returns-4 : tie.Need-returns-4 Inv-loop μ-loop
-returns-4 c = search needs
+returns-4 c = λ _. read-ends (c .before .before .before .before .before .before .loop .inv .3) _ _ (c .before .before .finish2 .ensures)
+
+tell-requires : tie.Need-tell-requires Inv-loop μ-loop
+tell-requires c κs = search needs
+
+slice-reshare-prefix-finish-2 : tie.Need-slice-reshare-prefix-finish-2 Inv-loop μ-loop
+slice-reshare-prefix-finish-2 c = search needs
+
+slice-aggregate-finish-2 : tie.Need-slice-aggregate-finish-2 Inv-loop μ-loop
+slice-aggregate-finish-2 c = search needs
+
+finish-requires-2 : tie.Need-finish-requires-2 Inv-loop μ-loop
+finish-requires-2 c κs = search needs
 
 pub replay-blocks-spec : {M : Type 1} → statement M
 replay-blocks-spec =
@@ -101,9 +119,13 @@ replay-blocks-spec =
     same-length-6
     returns-3
     go-on-requires
+    tell-requires
     sub-blocks
     loop-less
     loop-again
+    slice-reshare-prefix-finish-2
+    slice-aggregate-finish-2
+    finish-requires-2
     same-length-7
     same-length-8
     returns-4)

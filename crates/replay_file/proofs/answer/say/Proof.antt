@@ -4,17 +4,17 @@ use Rattle.text.proofs.Texts.{appended-room}
 use mathlib.Core.Path.{sym}
 use native.Mathlib.Omega.{arith}
 use borrow.Author.Needs.{needs}
-use Rattle.replay_file.proofs.say.Statement.{statement}
-use Rattle.replay_file.proofs.say.Tie as tie
+use Rattle.replay_file.proofs.answer.say.Statement.{statement}
+use Rattle.replay_file.proofs.answer.say.Tie as tie
 
-slice-aggregate-put-outcome : tie.Need-slice-aggregate-put-outcome
-slice-aggregate-put-outcome c = search needs
+slice-aggregate-put-answer : tie.Need-slice-aggregate-put-answer
+slice-aggregate-put-answer c = search needs
 
-put-outcome-requires : tie.Need-put-outcome-requires
-put-outcome-requires c κs = search needs
+put-answer-requires : tie.Need-put-answer-requires
+put-answer-requires c κs = search needs
 
 array-share-prefix-line : tie.Need-array-share-prefix-line
-array-share-prefix-line c = appended-room _ _ _ _ _ (c .before .put-outcome .ensures) (omega arith)
+array-share-prefix-line c = appended-room _ _ _ _ _ (c .before .put-answer .ensures) (omega arith)
 
 slice-aggregate-write-all : tie.Need-slice-aggregate-write-all
 slice-aggregate-write-all c = sym (length-take-le _ _ (array-share-prefix-line (c .before)))
@@ -29,8 +29,8 @@ pub say-spec : {M : Type 1} → statement M
 say-spec =
     tie.close
     (tie.spec
-    slice-aggregate-put-outcome
-    put-outcome-requires
+    slice-aggregate-put-answer
+    put-answer-requires
     array-share-prefix-line
     slice-aggregate-write-all
     write-all-requires

@@ -1,0 +1,37 @@
+// What the programs do with their arguments, and what they say on standard error.
+use libc::STDERR_FILENO;
+use text::words;
+
+// Whether an argument is this word.
+pub fn is(i: usize, word: &[u8]) -> bool {
+    let mut space = io::buffer();
+    let n = os::arg(i, &mut space);
+    words::same(&space[..n], word)
+}
+
+// Whether an argument is an option: it begins with `-`, and more follows.
+pub fn is_option(i: usize) -> bool {
+    let mut space = io::buffer();
+    let n = os::arg(i, &mut space);
+    if n < 2 {
+        return false;
+    }
+    space[0] == b'-'
+}
+
+// Tells that a program does not take an argument.
+pub fn refuse(program: &[u8], i: usize) {
+    let mut space = io::buffer();
+    let n = os::arg(i, &mut space);
+    io::write_all(STDERR_FILENO, program);
+    io::write_all(STDERR_FILENO, b": unknown argument: ");
+    io::write_all(STDERR_FILENO, &space[..n]);
+    io::write_all(STDERR_FILENO, b" (--help tells which there are)\n");
+}
+
+// Tells what is awaited, where standard input is a terminal.
+pub fn hint(text: &[u8]) {
+    if libc::isatty(libc::STDIN_FILENO) == 1 {
+        io::write_all(STDERR_FILENO, text);
+    }
+}

@@ -1,0 +1,40 @@
+// The line of an answer, and the message where there is none.
+use capture::Outcome;
+use libc::STDOUT_FILENO;
+use text::buffer;
+ghost use Prim.Native.Nat.{_+_, _≤_};
+ghost use lib.ListN.{length};
+ghost use Rattle.text.specs.Text.{Appended};
+ghost use Rattle.replay_file.specs.Captures.{answerLine};
+
+// Puts the line of an outcome, after the name of the capture where there are several.
+fn put_answer(several: bool, name: &[u8], o: Outcome, out: &mut [u8]) -> usize
+    requires { ⌜ length (now name) + 42 ≤ length (now out) ⌝ }
+    ensures { λ r. ⌜ Appended (now (out .entry)) 0 (answerLine several (now (name .entry)) o) (now (out .exit)) r ⌝ }
+{
+    if !several {
+        return outcome::put_outcome(o, out, 0);
+    }
+    let end = buffer::put(name, out, 0);
+    let at = buffer::put(b": ", out, end);
+    outcome::put_outcome(o, out, at)
+}
+
+// Writes the line of an outcome, and answers whether it could be written.
+pub fn say(several: bool, name: &[u8], o: Outcome) -> bool
+    requires { ⌜ length (now name) ≤ 4096 ⌝ }
+{
+    let mut line = [0u8; 4138];
+    let end = put_answer(several, name, o, &mut line);
+    io::write_all(STDOUT_FILENO, &line[..end])
+}
+
+// Tells that a capture cannot be read, and why.
+pub fn tell(name: &[u8])
+    requires { ⌜ length (now name) ≤ 4096 ⌝ }
+{
+    let mut what = [0u8; 4104];
+    let at = buffer::put(b"replay: ", &mut what, 0);
+    let end = buffer::put(name, &mut what, at);
+    os::fail(&what[..end]);
+}
