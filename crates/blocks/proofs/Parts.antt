@@ -18,8 +18,8 @@ pub record Going (w₀ : Standing) (block : List ℕ) (w : Standing) (next : ℕ
   pub all : more ≡ false → before 10 (drop next block) ≡ length (drop next block)
   pub enough : more ≡ true → length block ≤ next + turns
 
-pub going-begins : (w : Standing) (block : List ℕ) → Going w block w 0 true (length block)
-going-begins w block =
+pub going-begins : (w : Standing) (block : List ℕ) (turns : ℕ) → length block ≤ turns → Going w block w 0 true turns
+going-begins w block turns h =
     record { inside = omega arith; leads = refl; all = λ f. absurd (false≢true (sym f)); enough = λ _. omega arith }
 
 module _ {w₀ : Standing} {block : List ℕ} {w : Standing} {next : ℕ} {more : Bool} {turns : ℕ} where

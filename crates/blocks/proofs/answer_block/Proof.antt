@@ -19,7 +19,7 @@ abbrev μ-loop : tie.MeasureT-loop
 μ-loop block numbers₀ kept₀ out₀ p₀ turns₀ numbers kept out p turns = turns
 
 loop-holds : tie.Need-loop-holds Inv-loop μ-loop
-loop-holds c = (refl, (refl, (refl, (search needs, going-begins _ _))))
+loop-holds c = (refl, (refl, (refl, (search needs, going-begins _ _ _ (omega arith)))))
 
 same-length : tie.Need-same-length Inv-loop μ-loop
 same-length c = c .before .before .before .loop .inv .0

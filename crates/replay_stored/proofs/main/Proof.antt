@@ -25,6 +25,9 @@ open-read-requires c κs = search needs
 returns : tie.Need-returns Inv-loop μ-loop
 returns c = search needs
 
+slice-aggregate-replay : tie.Need-slice-aggregate-replay Inv-loop μ-loop
+slice-aggregate-replay c = search needs
+
 replay-requires : tie.Need-replay-requires Inv-loop μ-loop
 replay-requires c κs = search needs
 
@@ -54,6 +57,7 @@ main-spec =
     slice-aggregate-open-read
     open-read-requires
     returns
+    slice-aggregate-replay
     replay-requires
     close-requires
     add-n
