@@ -4,8 +4,8 @@ use mathlib.Core.Path.{_≡_, refl, sym, ap, _∙_}
 use mathlib.Core.Bool.{Bool, true, false, cond, not, _&&_, false≢true}
 use mathlib.Core.List.{List, [], _∷_, _++_}
 use lib.Dec.{eqb}
-use lib.ListN.{length, drop, length-append}
-use lib.Seq.{take-all, take-at, drop-at}
+use lib.ListN.{length, take, drop, length-append}
+use lib.Seq.{take-all, take-append-le, drop-append-le}
 use native.Mathlib.Omega.{arith}
 use borrow.Author.Tests.{ne-eqb}
 use Rattle.flag.proofs.Laws.{cond-map}
@@ -244,7 +244,7 @@ short-file bytes h =
     go (w ∷ []) h = refl
     go (w ∷ v ∷ ws) h = absurd (omega arith)
 
-pub headed-file : (header rest : List ℕ) → length header ≡ 8 → captureOf (header ++ rest) ≡ headedOf (wordsOf header) rest
+pub headed-file : (first rest : List ℕ) → 8 ≤ length first → captureOf (first ++ rest) ≡ headedOf (wordsOf (take 8 first)) (drop 8 first ++ rest)
 unfolding captureOf
-headed-file header rest e =
-    ap (λ (l : List ℕ). headedOf (wordsOf l) (drop 8 (header ++ rest))) (take-at header rest 8 e) ∙ ap (headedOf (wordsOf header)) (drop-at header rest 8 e)
+headed-file first rest h =
+    ap (λ (l : List ℕ). headedOf (wordsOf l) (drop 8 (first ++ rest))) (take-append-le 8 first rest h) ∙ ap (headedOf (wordsOf (take 8 first))) (drop-append-le 8 first rest h)

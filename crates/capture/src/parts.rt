@@ -65,17 +65,18 @@ fn unread(number: u8) -> Progress
     }
 }
 
-// The file that begins with these bytes, which are its header, or all of it where it is shorter.
-pub fn begin(header: &[u8]) -> Progress
-    ensures { λ r. ⌜ (length (now (header .entry)) ≡ 8 → (rest : List ℕ) → restOf r rest ≡ captureOf (now (header .entry) ++ rest)) ⌝ }
-    ensures { λ r. ⌜ (length (now (header .entry)) < 8 → restOf r [] ≡ captureOf (now (header .entry))) ⌝ }
+// The file that begins with these bytes: their first eight are its header, and the records' bytes
+// follow. Where they are fewer they are all of the file.
+pub fn begin(first: &[u8]) -> Progress
+    ensures { λ r. ⌜ (8 ≤ length (now (first .entry)) → (rest : List ℕ) → restOf r (drop 8 (now (first .entry)) ++ rest) ≡ captureOf (now (first .entry) ++ rest)) ⌝ }
+    ensures { λ r. ⌜ (length (now (first .entry)) < 8 → restOf r [] ≡ captureOf (now (first .entry))) ⌝ }
     ensures { λ r. ⌜ r .place ≡ 0 ⌝ }
 {
-    if header.len() != 8 {
+    if first.len() < 8 {
         return unread(answer::BAD_RECORD);
     }
     let mut words = [0u32; 2];
-    file::decode(header, &mut words);
+    file::decode(&first[..8], &mut words);
     if !file::good_header(words[0], words[1]) {
         return unread(answer::BAD_HEADER);
     }

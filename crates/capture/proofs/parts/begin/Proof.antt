@@ -5,11 +5,12 @@ use Rattle.capture.specs.declared.parts.Progress.{Progress}
 use Rattle.device.specs.State.{freshOf}
 use Rattle.recorder.specs.File.{wordsOf, goodHeader, version}
 use Rattle.capture.proofs.Carried.{onward-none, rest-none, rest-records, short-file, headed-file}
-use Prim.Native.Nat.{ℕ, _-_}
+use Prim.Native.Nat.{ℕ, _-_, _≤_}
 use mathlib.Core.Path.{_≡_, refl, sym, ap, _∙_}
 use mathlib.Core.Bool.{true, false}
-use mathlib.Core.List.{List, [], _∷_}
-use lib.ListN.{length, getD, take}
+use mathlib.Core.List.{List, [], _∷_, _++_}
+use lib.ListN.{length, getD, take, drop, length-take}
+use lib.Seq.{length-take-le}
 use native.Mathlib.Omega.{arith}
 use borrow.Author.Tests.{not-true, not-false}
 use borrow.Author.Needs.{needs}
@@ -39,15 +40,23 @@ unread-requires c κs = search needs
 
 returns : tie.Need-returns
 returns c = (
-  λ h rest. absurd (c .before .if1 .taken h),
+  λ h rest. absurd (omega (arith, c .before .if1 .taken)),
   (λ h. rw (c .unread .ensures) (rest-none (unread 8) [] refl ∙ sym (short-file _ h)), ap (λ (p : Progress). p .place) (c .unread .ensures)),
 )
 
 slice-aggregate-decode : tie.Need-slice-aggregate-decode
-slice-aggregate-decode c = search needs
+slice-aggregate-decode c =
+    let first = c .before .before .before .args .first .now in
+    sym (length-take-le 8 first (omega (arith, c .before .if1 .left)))
+
+slice-aggregate-decode-2 : tie.Need-slice-aggregate-decode-2
+slice-aggregate-decode-2 c = search needs
 
 decode-requires : tie.Need-decode-requires
-decode-requires c κs = search needs
+decode-requires c κs =
+    let first = c .before .before .before .before .args .first .now in
+    let fits : length (take 8 first) ≤ 8 = omega (arith, length-take 8 first) in
+    fits
 
 array-read-good-header : tie.Need-array-read-good-header
 array-read-good-header c = search needs
@@ -64,14 +73,16 @@ unread-requires-2 c κs = search needs
 returns-2 : tie.Need-returns-2
 unfolding headedOf
 returns-2 c =
-    let header = c .before .before .before .before .before .before .before .before .args .header .now in
-    let words = c .before .before .before .before .decode .last .1 .0 in
-    let pair : wordsOf header ≡ getD words 0 0 ∷ getD words 1 0 ∷ [] =
-    sym (c .before .before .before .before .decode .ensures .0) ∙ two words (c .before .before .before .before .decode .result) (c .before .before .before .before .decode .kept .1 .0) (omega (arith, c .before .before .before .before .decode .ensures .1 .0, c .before .before .before .before .before .before .if1 .left))
+    let first = c .before .before .before .before .before .before .before .before .before .args .first .now in
+    let decode = c .before .before .before .before .decode in
+    let words = decode .last .1 .0 in
+    let long : 8 ≤ length first = omega (arith, c .before .before .before .before .before .before .before .if1 .left) in
+    let pair : wordsOf (take 8 first) ≡ getD words 0 0 ∷ getD words 1 0 ∷ [] =
+    sym (decode .ensures .0) ∙ two words (decode .result) (decode .kept .1 .0) (omega (arith, decode .ensures .1 .0, length-take-le 8 first long))
     in
     let bad : goodHeader (getD words 0 0) (getD words 1 0) ≡ false = sym (c .before .before .good-header .ensures) ∙ not-true _ (c .before .if2 .taken) in (
-      λ h rest. rw (c .unread2 .ensures) (rest-none (unread 6) rest refl ∙ sym (headed-file header rest h ∙ ap (λ (ws : List ℕ). headedOf ws rest) pair ∙ (simp bad))),
-      (λ h. absurd (omega (arith, c .before .before .before .before .before .before .if1 .left)), ap (λ (p : Progress). p .place) (c .unread2 .ensures)),
+      λ h rest. rw (c .unread2 .ensures) (rest-none (unread 6) (drop 8 first ++ rest) refl ∙ sym (headed-file first rest h ∙ ap (λ (ws : List ℕ). headedOf ws (drop 8 first ++ rest)) pair ∙ (simp bad))),
+      (λ h. absurd (omega (arith, long)), ap (λ (p : Progress). p .place) (c .unread2 .ensures)),
     )
 
 array-read-version : tie.Need-array-read-version
@@ -86,16 +97,18 @@ fresh-requires c κs = search needs
 returns-3 : tie.Need-returns-3
 unfolding headedOf
 returns-3 c =
-    let header = c .before .before .before .before .before .before .before .before .before .args .header .now in
-    let words = c .before .before .before .before .before .decode .last .1 .0 in
-    let pair : wordsOf header ≡ getD words 0 0 ∷ getD words 1 0 ∷ [] =
-    sym (c .before .before .before .before .before .decode .ensures .0) ∙ two words (c .before .before .before .before .before .decode .result) (c .before .before .before .before .before .decode .kept .1 .0) (omega (arith, c .before .before .before .before .before .decode .ensures .1 .0, c .before .before .before .before .before .before .before .if1 .left))
+    let first = c .before .before .before .before .before .before .before .before .before .before .args .first .now in
+    let decode = c .before .before .before .before .before .decode in
+    let words = decode .last .1 .0 in
+    let long : 8 ≤ length first = omega (arith, c .before .before .before .before .before .before .before .before .if1 .left) in
+    let pair : wordsOf (take 8 first) ≡ getD words 0 0 ∷ getD words 1 0 ∷ [] =
+    sym (decode .ensures .0) ∙ two words (decode .result) (decode .kept .1 .0) (omega (arith, decode .ensures .1 .0, length-take-le 8 first long))
     in
     let fit : goodHeader (getD words 0 0) (getD words 1 0) ≡ true = sym (c .before .before .before .good-header .ensures) ∙ not-false _ (c .before .before .if2 .left) in (
       λ h rest.
           rw (c .fresh .ensures, c .before .version .ensures)
-          (rest-records (record { version = version (getD words 1 0); place = 0; replayed = agreed freshOf }) rest refl ∙ onward-none (recordsOf (version (getD words 1 0)) freshOf rest) ∙ sym (headed-file header rest h ∙ ap (λ (ws : List ℕ). headedOf ws rest) pair ∙ (simp fit))),
-      (λ h. absurd (omega (arith, c .before .before .before .before .before .before .before .if1 .left)), refl),
+          (rest-records (record { version = version (getD words 1 0); place = 0; replayed = agreed freshOf }) (drop 8 first ++ rest) refl ∙ onward-none (recordsOf (version (getD words 1 0)) freshOf (drop 8 first ++ rest)) ∙ sym (headed-file first rest h ∙ ap (λ (ws : List ℕ). headedOf ws (drop 8 first ++ rest)) pair ∙ (simp fit))),
+      (λ h. absurd (omega (arith, long)), refl),
     )
 
 pub begin-spec : {M : Type 1} → statement M
@@ -105,6 +118,7 @@ begin-spec =
     unread-requires
     returns
     slice-aggregate-decode
+    slice-aggregate-decode-2
     decode-requires
     array-read-good-header
     array-read-good-header-2
