@@ -273,16 +273,17 @@ struct uart_replayed uart_replay(struct uart_state s, uint32_t version, const ui
 
 /*
  * A capture's file, whose bytes come in parts, replayed from the fresh state: uart_replay_begin takes
- * the 8 bytes of its header (or all of a file that is shorter), uart_replay_more the bytes that come
- * next, uart_replay_end the last ones, or none. One to three bytes at the end of a part that make no
- * whole record are given again at the start of the next part. The answer is that of the whole file,
- * whatever its parts are; it ends as a replay does, and beside that with
+ * its first bytes and looks at the 8 of its header (or at all of a file that is shorter);
+ * uart_replay_more takes the bytes that come after the header, uart_replay_end the last ones, or none.
+ * One to three bytes at the end of a part that make no whole record are given again at the start of
+ * the next part. The answer is that of the whole file, whatever its parts are; it ends as a replay
+ * does, and beside that with
  *   UART_BAD_RECORD at place 0: shorter than a header; UART_BAD_HEADER at place 0;
  *   UART_BAD_RECORD at the number of whole records: one to three bytes are left.
  * Once `stopped` is not UART_GOING_ON, nothing that comes next changes the answer. A file of more than
  * 2^62 records is refused with UART_MALFORMED.
  */
-struct uart_progress uart_replay_begin(const uint8_t *header, size_t count);
+struct uart_progress uart_replay_begin(const uint8_t *first, size_t count);
 struct uart_progress uart_replay_more(struct uart_progress p, const uint8_t *bytes, size_t count);
 struct uart_replayed uart_replay_end(struct uart_progress p, const uint8_t *bytes, size_t count);
 

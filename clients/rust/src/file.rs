@@ -20,11 +20,11 @@ pub struct File {
 }
 
 impl File {
-    /// The file that begins with the 8 bytes of its header, or that has only these bytes where they
-    /// are fewer.
-    pub fn begin(header: &[u8]) -> File {
+    /// The file that begins with these bytes: their first 8 are its header, and what follows comes
+    /// again with the next part. Where they are fewer they are all of the file.
+    pub fn begin(first: &[u8]) -> File {
         // SAFETY: the address and the length are those of a slice.
-        let progress = unsafe { raw::uart_replay_begin(header.as_ptr(), header.len()) };
+        let progress = unsafe { raw::uart_replay_begin(first.as_ptr(), first.len()) };
         File { progress }
     }
 

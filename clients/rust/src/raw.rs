@@ -327,11 +327,11 @@ unsafe extern "C" {
         records: *const u32,
         count: usize,
     ) -> Replayed;
-    /// A file that begins with the 8 bytes of its header, or is shorter.
+    /// A file that begins with these bytes, whose header is the first 8, or that is shorter.
     ///
     /// # Safety
-    /// `count` bytes can be read at `header`.
-    pub unsafe fn uart_replay_begin(header: *const u8, count: usize) -> Progress;
+    /// `count` bytes can be read at `first`.
+    pub unsafe fn uart_replay_begin(first: *const u8, count: usize) -> Progress;
     /// The bytes that come next.
     ///
     /// # Safety

@@ -35,13 +35,13 @@ carried-again p =
 pub told-handed : (q : Progress) (r : Carried) → r ≡ handedOf q → Told (q .replayed .outcome) → ToldSoFar r
 told-handed q r e t = subst (λ (x : Progress). Told (x .replayed .outcome)) (sym (ap carriedOf e ∙ carried-again q)) t
 
--- a number up to 8 is 8, or below
-pub first : {A : Type 0} (n : ℕ) → n ≤ 8 → (n ≡ 8 → A) → (n < 8 → A) → A
-first {A} n h same below = go (ltb n 8) refl
+-- one number is not above another, or it is
+pub either : {A : Type 0} (m n : ℕ) → (m ≤ n → A) → (n < m → A) → A
+either {A} m n most more = go (ltb n m) refl
   where
-    go : (b : Bool) → ltb n 8 ≡ b → A
-    go true e = below (ltb-true n 8 e)
-    go false e = same (omega (arith, h, ltb-false n 8 e))
+    go : (b : Bool) → ltb n m ≡ b → A
+    go true e = more (ltb-true n m e)
+    go false e = most (ltb-false n m e)
 
 -- The bytes before a place are replayed.
 pub record Blocks (p : Progress) (bytes : List ℕ) (q : Progress) (at : ℕ) : Type 0 where

@@ -142,15 +142,16 @@ fn too_many(p: Progress) -> Replay
     Replay { values, state }
 }
 
-// The file that begins with these bytes, which are its header, or all of it where it is shorter.
+// The file that begins with these bytes: their first eight are its header, and what follows comes
+// again with the next part. Where they are fewer they are all of the file.
 #[no_mangle]
-pub extern "C" fn uart_replay_begin(header: &[u8]) -> Progress
-    ensures { λ r. ⌜ (length (now (header .entry)) ≡ 8 → (rest : List ℕ) → restAnswer r rest ≡ replayAnswer (captureOf (now (header .entry) ++ rest))) ⌝ }
-    ensures { λ r. ⌜ (length (now (header .entry)) < 8 → restAnswer r [] ≡ replayAnswer (captureOf (now (header .entry)))) ⌝ }
+pub extern "C" fn uart_replay_begin(first: &[u8]) -> Progress
+    ensures { λ r. ⌜ (8 ≤ length (now (first .entry)) → (rest : List ℕ) → restAnswer r (drop 8 (now (first .entry)) ++ rest) ≡ replayAnswer (captureOf (now (first .entry) ++ rest))) ⌝ }
+    ensures { λ r. ⌜ (length (now (first .entry)) < 8 → restAnswer r [] ≡ replayAnswer (captureOf (now (first .entry)))) ⌝ }
     ensures { λ r. ⌜ r .done ≡ 0 ⌝ }
-    ensures { λ r. ⌜ (length (now (header .entry)) ≤ 8 → ToldSoFar r) ⌝ }
+    ensures { λ r. ⌜ ToldSoFar r ⌝ }
 {
-    let p = parts::begin(header);
+    let p = parts::begin(first);
     handed(p)
 }
 

@@ -1,16 +1,16 @@
 -- What is begun is handed out.
 use Rattle.export.proofs.Agreed.{capture-told, told-by-rest}
-use Rattle.export.proofs.Parts.{carried-again, told-handed, first}
+use Rattle.export.proofs.Parts.{carried-again, told-handed, either}
 use Rattle.capture.specs.File.{restOf}
 use Rattle.capture.specs.declared.parts.Progress as parts
 use Rattle.export.specs.declared.file.Progress.{Progress}
 use Rattle.export.specs.Replay.{replayAnswer, Told}
 use Rattle.export.specs.File.{restAnswer}
-use Prim.Native.Nat.{ℕ, _≤_}
+use Prim.Native.Nat.{ℕ}
 use mathlib.Core.Path.{_≡_, sym, ap, subst, _∙_}
 use Rattle.capture.specs.declared.Replayed.{Replayed}
 use mathlib.Core.List.{List, [], _++_}
-use lib.ListN.{length}
+use lib.ListN.{length, drop}
 use borrow.Author.Needs.{needs}
 use Rattle.export.proofs.file.uart_replay_begin.Statement.{statement}
 use Rattle.export.proofs.file.uart_replay_begin.Tie as tie
@@ -28,17 +28,16 @@ returns c =
     λ l. ap (λ (x : Progress). restAnswer x l) (c .handed .ensures) ∙ ap (λ (x : parts.Progress). replayAnswer (restOf x l)) (carried-again q)
     in
     let begun = c .before .begin .ensures in
-    let header = c .before .before .before .args .header .now in
-    let told : length header ≤ 8 → Told (q .replayed .outcome) =
-    λ h.
-    first (length header) h
-    (λ e. told-by-rest q [] (subst (λ (x : Replayed). Told (x .outcome)) (sym (begun .0 e [])) (capture-told (header ++ []))))
-    (λ l. told-by-rest q [] (subst (λ (x : Replayed). Told (x .outcome)) (sym (begun .1 .0 l)) (capture-told header)))
+    let bytes = c .before .before .before .args .first .now in
+    let told : Told (q .replayed .outcome) =
+    either 8 (length bytes)
+    (λ h. told-by-rest q (drop 8 bytes ++ []) (subst (λ (x : Replayed). Told (x .outcome)) (sym (begun .0 h [])) (capture-told (bytes ++ []))))
+    (λ h. told-by-rest q [] (subst (λ (x : Replayed). Told (x .outcome)) (sym (begun .1 .0 h)) (capture-told bytes)))
     in (
-      λ h rest. same rest ∙ ap replayAnswer (begun .0 h rest),
+      λ h rest. same (drop 8 bytes ++ rest) ∙ ap replayAnswer (begun .0 h rest),
       (
         λ h. same [] ∙ ap replayAnswer (begun .1 .0 h),
-        (ap (λ (x : Progress). x .done) (c .handed .ensures) ∙ begun .1 .1, λ h. told-handed q (c .handed .result) (c .handed .ensures) (told h)),
+        (ap (λ (x : Progress). x .done) (c .handed .ensures) ∙ begun .1 .1, told-handed q (c .handed .result) (c .handed .ensures) told),
       ),
     )
 
