@@ -19,7 +19,7 @@ use Rattle.capture.specs.declared.Replayed.{Replayed}
 use Rattle.capture.specs.declared.parts.Progress.{Progress}
 use Rattle.capture.proofs.Ways.{each-way}
 use Rattle.capture.proofs.Carried.{rest-none, is-agreed}
-use Rattle.export.specs.Replay.{Told}
+use Rattle.client.specs.Replay.{Told}
 
 and-false : (b : Bool) → b && false ≡ false
 and-false true = refl
