@@ -37,8 +37,14 @@ def outcome(replay):
 class Records(unittest.TestCase):
     def test_bytes_are_no_records(self):
         capture = file_of(AGREES)
-        bytewise = array.array("B", capture)
-        for given in (capture, bytearray(capture), memoryview(capture), bytewise, [capture], io.BytesIO(capture)):
+        for given in (
+            capture,
+            bytearray(capture),
+            memoryview(capture),
+            array.array("B", capture),
+            [capture],
+            io.BytesIO(capture),
+        ):
             with self.subTest(type(given)):
                 u = Uart()
                 self.assertRaisesRegex(TypeError, "replay_file", u.replay, 1, given)
@@ -62,9 +68,16 @@ class Records(unittest.TestCase):
                 self.assertEqual(Uart().replay(1, records), (5001, 0, 0x5A))
 
     def test_what_is_no_word(self):
-        for given, error in (([1 << 32], ValueError), ([-1], ValueError), ([1.5], TypeError), ("ab", TypeError),
-                             (array.array("i", [-1]), ValueError), (5, TypeError),
-                             (memoryview(array.array("I", range(4))).cast("B").cast("I", (2, 2)), TypeError)):
+        square = memoryview(array.array("I", range(4))).cast("B").cast("I", (2, 2))
+        for given, error in (
+            ([1 << 32], ValueError),
+            ([-1], ValueError),
+            ([1.5], TypeError),
+            ("ab", TypeError),
+            (array.array("i", [-1]), ValueError),
+            (5, TypeError),
+            (square, TypeError),
+        ):
             with self.subTest(given):
                 u = Uart()
                 self.assertRaises(error, u.replay, 1, given)
@@ -166,8 +179,7 @@ class Files(unittest.TestCase):
         self.assertEqual(u, before)
 
     def test_constant_memory(self):
-        """A capture that has no end in sight: 40 MB through a pipe, in a process held to 100 MB more
-        than it has at the start."""
+        """40 MB through a pipe, in a process held to 20 MB more than it has at the start."""
         code = (
             "import resource, sys, tl16c750\n"
             "used = int(open('/proc/self/statm').read().split()[0]) * resource.getpagesize()\n"

@@ -38,6 +38,10 @@ def fail(number):
     raise Refused(number, 3)
 
 
+def made_in(module, item):
+    return getattr(item, "__module__", "") == module.__name__
+
+
 def answers(lines):
     """What the program `calls` writes."""
     text = "".join(line + "\n" for line in lines)
@@ -60,7 +64,8 @@ class Values(unittest.TestCase):
 
     def test_copies_are_apart(self):
         u = busy()
-        for other in (u.copy(), copy.copy(u), copy.deepcopy(u), Uart(u.state), pickle.loads(pickle.dumps(u))):
+        pickled = pickle.loads(pickle.dumps(u))
+        for other in (u.copy(), copy.copy(u), copy.deepcopy(u), Uart(u.state), pickled):
             self.assertEqual(u, other)
             other.state.tx.bytes[0] ^= 1
             self.assertNotEqual(u, other)
@@ -154,11 +159,12 @@ class Numbers(unittest.TestCase):
 class Said(unittest.TestCase):
     def test_hints_and_docstrings(self):
         for module in (structs, library, uart):
-            own = [item for item in vars(module).values() if getattr(item, "__module__", "") == module.__name__]
+            own = [item for item in vars(module).values() if made_in(module, item)]
             functions = [item for item in own if inspect.isfunction(item)]
             for kind in filter(inspect.isclass, own):
-                functions += [f for f in vars(kind).values() if inspect.isfunction(f) and f.__module__ == module.__name__]
                 self.assertTrue(kind.__doc__, kind)
+                members = [f for f in vars(kind).values() if made_in(module, f)]
+                functions += filter(inspect.isfunction, members)
             for function in functions:
                 signature = inspect.signature(function)
                 self.assertIsNot(signature.return_annotation, signature.empty, function)
@@ -188,7 +194,8 @@ class Refusals(unittest.TestCase):
         u = busy()
         u.state.rx.count = 65
         before = u.copy()
-        for call in (u.reset, u.tick, u.forecast, lambda: u.pins, lambda: u.run(5), lambda: u.replay(1, [])):
+        run, replay = lambda: u.run(5), lambda: u.replay(1, [])
+        for call in (u.reset, u.tick, u.forecast, lambda: u.pins, run, replay):
             with self.assertRaises(Refused) as refused:
                 call()
             self.assertEqual(refused.exception.number, MALFORMED)

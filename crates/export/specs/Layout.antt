@@ -12,8 +12,8 @@ use Rattle.device.specs.declared.Forecasted.{Forecasted}
 use Rattle.device.specs.declared.Leveled.{Leveled}
 use Rattle.device.specs.declared.Ran.{Ran}
 use Rattle.capture.specs.declared.Values.{Values}
-use Rattle.export.specs.declared.Replay.{Replay}
-use Rattle.export.specs.declared.file.Progress.{Progress}
+use Rattle.client.specs.declared.Replay.{Replay}
+use Rattle.client.specs.declared.file.Progress.{Progress}
 
 -- The bytes that a value takes, and what its place is a multiple of.
 pub record Shape : Type 0 where

@@ -1,4 +1,2 @@
--- The layout of the structs, and what a replay answers.
+-- The layout of the structs.
 pub mod Layout
-pub mod Replay
-pub mod File

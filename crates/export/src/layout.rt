@@ -7,9 +7,9 @@
 // the number answered is field 100; the byte, the ticks, the level, the ticks used and a replay's byte
 // seen are field 101; the output pins are fields 102..107; a replay's byte of the model is field 108,
 // its place field 109; a file's version, what stopped it and the records done are fields 110..112.
-use crate::Replay;
-use crate::file::Progress;
 use capture::Values;
+use client::Replay;
+use client::file::Progress;
 use device::Answer;
 use device::Baud;
 use device::FifoControl;

@@ -1,12 +1,13 @@
 // The calls for programs in C, Rust and other languages, under plain names: `rt staticlib export`
 // makes the library that they link. The structs go by value, a run of records as its address and
-// length, and each call has the contract of the call of `uart` or `capture` that it hands on.
+// length, and each call has the contract of the call of `uart` or `client` that it hands on.
 // clients/tl16c750.h declares the same for C.
-pub mod file;
 pub mod layout;
 
-use capture::Replayed;
-use capture::Values;
+use capture::Outcome;
+use client::Replay;
+use client::file;
+use client::file::Progress;
 use device::Answer;
 use device::Forecasted;
 use device::Leveled;
@@ -14,20 +15,18 @@ use device::Looked;
 use device::Ran;
 use device::State;
 ghost use mathlib.Core.Path.{_≡_};
-ghost use Prim.Native.Nat.{ℕ, _≤_};
+ghost use mathlib.Core.List.{List, [], _++_};
+ghost use lib.ListN.{length, drop};
+ghost use Prim.Native.Nat.{ℕ, _+_, _*_, _/_, _≤_, _<_, _^_};
 ghost use Rattle.device.specs.State.{freshOf};
 ghost use Rattle.device.specs.Calls.{resetOf, readOf, writeOf, sinOf, modemOf, tickOf, ticksOf, ticksAnswer, pinsOf};
 ghost use Rattle.device.specs.Transmitter.{line};
 ghost use Rattle.device.specs.Forecast.{forecastOf, levelOf, runOf, Foretold, StopsInTime};
 ghost use Rattle.capture.specs.Replay.{replayOf, Agrees};
-ghost use Rattle.export.specs.Replay.{replayAnswer};
-
-// What a replay answers: the number, the place and both bytes, and the state in which it ended.
-#[repr(C)]
-pub struct Replay {
-    pub values: Values,
-    pub state: State,
-}
+ghost use Rattle.capture.specs.Replay.{refused as «refused-at»};
+ghost use Rattle.capture_file.specs.File.{captureOf, restOf};
+ghost use Rattle.client.specs.Replay.{replayAnswer};
+ghost use Rattle.client.specs.File.{carriedOf, beyondOf, restAnswer, ToldSoFar};
 
 // The version of the library, and of the layout of its structs: this one changes where a struct does.
 #[repr(C)]
@@ -151,23 +150,45 @@ pub extern "C" fn uart_level(s: State, t: u32) -> Leveled
     foretell::level(s, t)
 }
 
-// A replay's outcome as a client has it.
-fn answered(r: Replayed) -> Replay
-    ensures { λ a. ⌜ a ≡ replayAnswer r ⌝ }
-{
-    let outcome = r.outcome;
-    let state = r.state;
-    Replay {
-        values: capture::values_of(outcome),
-        state,
-    }
-}
-
 // A replay of records of a version: number 0 and both bytes the same where it agreed.
 #[no_mangle]
 pub extern "C" fn uart_replay(s: State, version: u32, records: &[u32]) -> Replay
     ensures outcome { λ r. ⌜ r ≡ replayAnswer (replayOf version s (now (records .entry))) ⌝ }
     ensures agreed { λ r. ⌜ (r .values .number ≡ 0 → r .values .seen ≡ r .values .model → Agrees s (now (records .entry)) (r .state)) ⌝ }
 {
-    answered(capture::replay(s, version, records))
+    client::replay_records(s, version, records)
+}
+
+// A capture's file that begins with these bytes: their first eight are its header, and what follows comes
+// again with the next part. Where they are fewer they are all of the file.
+#[no_mangle]
+pub extern "C" fn uart_replay_begin(first: &[u8]) -> Progress
+    ensures { λ r. ⌜ (8 ≤ length (now (first .entry)) → (rest : List ℕ) → restAnswer r (drop 8 (now (first .entry)) ++ rest) ≡ replayAnswer (captureOf (now (first .entry) ++ rest))) ⌝ }
+    ensures { λ r. ⌜ (length (now (first .entry)) < 8 → restAnswer r [] ≡ replayAnswer (captureOf (now (first .entry)))) ⌝ }
+    ensures { λ r. ⌜ r .done ≡ 0 ⌝ }
+    ensures { λ r. ⌜ ToldSoFar r ⌝ }
+{
+    file::begin(first)
+}
+
+// Replays the whole records of the bytes that come next. One to three bytes that are left come again
+// at the start of the next part.
+#[no_mangle]
+pub extern "C" fn uart_replay_more(p: Progress, bytes: &[u8]) -> Progress
+    ensures { λ r. ⌜ (p .done + length (now (bytes .entry)) / 4 ≤ 2 ^ 62 → (rest : List ℕ) → restAnswer r (drop (4 * (length (now (bytes .entry)) / 4)) (now (bytes .entry)) ++ rest) ≡ restAnswer p (now (bytes .entry) ++ rest)) ⌝ }
+    ensures { λ r. ⌜ (2 ^ 62 < p .done + length (now (bytes .entry)) / 4 → r ≡ beyondOf p) ⌝ }
+    ensures { λ r. ⌜ r .done ≤ p .done + length (now (bytes .entry)) / 4 ⌝ }
+    ensures { λ r. ⌜ (ToldSoFar p → ToldSoFar r) ⌝ }
+{
+    file::more(p, bytes)
+}
+
+// The answer for a file that ends with these bytes.
+#[no_mangle]
+pub extern "C" fn uart_replay_end(p: Progress, bytes: &[u8]) -> Replay
+    ensures { λ r. ⌜ (p .done + length (now (bytes .entry)) / 4 ≤ 2 ^ 62 → r ≡ restAnswer p (now (bytes .entry))) ⌝ }
+    ensures { λ r. ⌜ (2 ^ 62 < p .done + length (now (bytes .entry)) / 4 → r ≡ replayAnswer («refused-at» 1 (p .state) 0)) ⌝ }
+    ensures agreed { λ r. ⌜ (ToldSoFar p → r .values .number ≡ 0 → r .values .seen ≡ r .values .model → restOf (carriedOf p) (now (bytes .entry)) .outcome ≡ Outcome.Agreed) ⌝ }
+{
+    file::end(p, bytes)
 }

@@ -1,7 +1,7 @@
 -- The outcome is that of the number and the values.
 use borrow.Author.Needs.{needs}
-use Rattle.export.proofs.file.carried.Statement.{statement}
-use Rattle.export.proofs.file.carried.Tie as tie
+use Rattle.client.proofs.file.carried.Statement.{statement}
+use Rattle.client.proofs.file.carried.Tie as tie
 
 outcome-of-requires : tie.Need-outcome-of-requires
 outcome-of-requires c κs = search needs

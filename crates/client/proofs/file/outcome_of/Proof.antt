@@ -1,7 +1,7 @@
 -- By the number of what stopped it.
 use borrow.Author.Tests.{eq-eqb, ne-eqb}
-use Rattle.export.proofs.file.outcome_of.Statement.{statement}
-use Rattle.export.proofs.file.outcome_of.Tie as tie
+use Rattle.client.proofs.file.outcome_of.Statement.{statement}
+use Rattle.client.proofs.file.outcome_of.Tie as tie
 
 returns : tie.Need-returns
 returns c = simp (eq-eqb _ _ (c .if1 .taken))

@@ -1,7 +1,7 @@
 -- The values and the state of the refusal.
 use borrow.Author.Needs.{needs}
-use Rattle.export.proofs.file.too_many.Statement.{statement}
-use Rattle.export.proofs.file.too_many.Tie as tie
+use Rattle.client.proofs.file.too_many.Statement.{statement}
+use Rattle.client.proofs.file.too_many.Tie as tie
 
 refused-requires : tie.Need-refused-requires
 refused-requires c κs = search needs

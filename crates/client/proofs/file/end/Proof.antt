@@ -1,16 +1,16 @@
 -- All whole records, and then what is left; a file of too many records is refused.
-use Rattle.export.proofs.Parts.{ends, end-told, too-many-told}
-use Rattle.export.specs.File.{restAnswer}
+use Rattle.client.proofs.Parts.{ends, end-told, too-many-told}
+use Rattle.client.specs.File.{restAnswer}
 use Prim.Native.Nat.{_+_, _-_, _*_, _/_, _≤_}
 use mathlib.Core.Path.{_≡_, ap, _∙_}
 use lib.ListN.{length}
 use native.Mathlib.Omega.{arith}
 use borrow.Author.Needs.{needs}
 use Rattle.capture_file.specs.declared.Progress as parts
-use Rattle.export.specs.declared.file.Progress.{Progress}
-use Rattle.export.specs.Replay.{replayAnswer}
-use Rattle.export.proofs.file.uart_replay_end.Statement.{statement}
-use Rattle.export.proofs.file.uart_replay_end.Tie as tie
+use Rattle.client.specs.declared.file.Progress.{Progress}
+use Rattle.client.specs.Replay.{replayAnswer}
+use Rattle.client.proofs.file.end.Statement.{statement}
+use Rattle.client.proofs.file.end.Tie as tie
 
 too-many-requires : tie.Need-too-many-requires
 too-many-requires c κs = search needs
@@ -74,8 +74,8 @@ returns-3 c =
       ),
     )
 
-pub uart-replay-end-spec : {M : Type 1} → statement M
-uart-replay-end-spec =
+pub end-spec : {M : Type 1} → statement M
+end-spec =
     tie.close
     (tie.spec
     too-many-requires

@@ -3,7 +3,7 @@ use mathlib.Core.Path.{_≡_}
 use Rattle.capture.specs.declared.Outcome.{Outcome}
 use Rattle.capture.specs.declared.Replayed.{Replayed}
 use Rattle.capture.specs.Replay.{valuesOf}
-use Rattle.export.specs.declared.Replay.{Replay}
+use Rattle.client.specs.declared.Replay.{Replay}
 
 -- the outcome as document 01's number and values, and the state
 abbrev pub replayAnswer : Replayed → Replay

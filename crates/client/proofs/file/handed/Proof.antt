@@ -1,7 +1,7 @@
 -- The number and the values of the outcome.
 use borrow.Author.Needs.{needs}
-use Rattle.export.proofs.file.handed.Statement.{statement}
-use Rattle.export.proofs.file.handed.Tie as tie
+use Rattle.client.proofs.file.handed.Statement.{statement}
+use Rattle.client.proofs.file.handed.Tie as tie
 
 stopped-by-requires : tie.Need-stopped-by-requires
 stopped-by-requires c κs = search needs

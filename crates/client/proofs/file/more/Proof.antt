@@ -1,13 +1,13 @@
 -- A block after the other; a file of too many records is refused.
-use Rattle.export.proofs.Parts.{hands-on, beyond-told, more-told}
+use Rattle.client.proofs.Parts.{hands-on, beyond-told, more-told}
 use mathlib.Core.Path.{ap}
 use mathlib.Core.List.{[]}
 use native.Mathlib.Omega.{arith}
 use borrow.Author.Needs.{needs}
 use Rattle.capture_file.specs.declared.Progress as parts
-use Rattle.export.specs.declared.file.Progress.{Progress}
-use Rattle.export.proofs.file.uart_replay_more.Statement.{statement}
-use Rattle.export.proofs.file.uart_replay_more.Tie as tie
+use Rattle.client.specs.declared.file.Progress.{Progress}
+use Rattle.client.proofs.file.more.Statement.{statement}
+use Rattle.client.proofs.file.more.Tie as tie
 
 refused-requires : tie.Need-refused-requires
 refused-requires c κs = search needs
@@ -51,8 +51,8 @@ returns-3 c =
       ),
     )
 
-pub uart-replay-more-spec : {M : Type 1} → statement M
-uart-replay-more-spec =
+pub more-spec : {M : Type 1} → statement M
+more-spec =
     tie.close
     (tie.spec
     refused-requires

@@ -14,12 +14,12 @@ use Rattle.capture_file.specs.declared.Progress.{Progress}
 use Rattle.capture.specs.declared.Replayed.{Replayed}
 use Rattle.capture.specs.Replay.{valuesOf, refused}
 use Rattle.device.specs.declared.State.{State}
-use Rattle.export.specs.declared.Replay.{Replay}
-use Rattle.export.proofs.Agreed.{refused-told, rest-told, told-by-rest}
+use Rattle.client.specs.declared.Replay.{Replay}
+use Rattle.client.proofs.Agreed.{refused-told, rest-told, told-by-rest}
 use Rattle.capture_file.specs.File.{restOf}
-use Rattle.export.specs.declared.file.Progress.{Progress as Carried}
-use Rattle.export.specs.Replay.{replayAnswer, Told}
-use Rattle.export.specs.File.{stoppedBy, outcomeOf, carriedOf, handedOf, beyondOf, restAnswer, ToldSoFar}
+use Rattle.client.specs.declared.file.Progress.{Progress as Carried}
+use Rattle.client.specs.Replay.{replayAnswer, Told}
+use Rattle.client.specs.File.{stoppedBy, outcomeOf, carriedOf, handedOf, beyondOf, restAnswer, ToldSoFar}
 
 same-outcome : (o : Outcome) → outcomeOf (stoppedBy o) (valuesOf o) ≡ o
 same-outcome Outcome.Agreed = refl

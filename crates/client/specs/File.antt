@@ -8,9 +8,9 @@ use Rattle.capture.specs.declared.Values.{Values}
 use Rattle.capture_file.specs.declared.Progress as parts
 use Rattle.capture.specs.Replay.{refused, valuesOf}
 use Rattle.capture_file.specs.File.{restOf}
-use Rattle.export.specs.declared.Replay.{Replay}
-use Rattle.export.specs.declared.file.Progress.{Progress}
-use Rattle.export.specs.Replay.{replayAnswer, Told}
+use Rattle.client.specs.declared.Replay.{Replay}
+use Rattle.client.specs.declared.file.Progress.{Progress}
+use Rattle.client.specs.Replay.{replayAnswer, Told}
 
 -- what stopped a replay: 0 nothing so far, 1 a read that differs, 2 a refusal
 abbrev pub stoppedBy : Outcome → ℕ

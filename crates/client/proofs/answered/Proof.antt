@@ -1,7 +1,7 @@
 -- The values of the outcome, and the state.
 use borrow.Author.Needs.{needs}
-use Rattle.export.proofs.answered.Statement.{statement}
-use Rattle.export.proofs.answered.Tie as tie
+use Rattle.client.proofs.answered.Statement.{statement}
+use Rattle.client.proofs.answered.Tie as tie
 
 values-of-requires : tie.Need-values-of-requires
 values-of-requires c κs = search needs

@@ -1,5 +1,5 @@
-// Replay of a capture's file, whose bytes come in parts, under C names. What is carried from part to
-// part goes by value, as all else does: every bit pattern of it is a value.
+// Replay of a capture's file, whose bytes come in parts. What a client carries from part to part goes
+// by value, and every bit pattern of it is a value.
 use crate::Replay;
 use crate::answered;
 use capture::Outcome;
@@ -13,8 +13,8 @@ ghost use Prim.Native.Nat.{ℕ, _+_, _*_, _/_, _≤_, _<_, _^_};
 ghost use lib.ListN.{length, drop};
 ghost use Rattle.capture.specs.Replay.{refused as «refused-at»};
 ghost use Rattle.capture_file.specs.File.{captureOf, restOf};
-ghost use Rattle.export.specs.Replay.{replayAnswer};
-ghost use Rattle.export.specs.File.{stoppedBy, outcomeOf, carriedOf, handedOf, beyondOf, restAnswer, ToldSoFar};
+ghost use Rattle.client.specs.Replay.{replayAnswer};
+ghost use Rattle.client.specs.File.{stoppedBy, outcomeOf, carriedOf, handedOf, beyondOf, restAnswer, ToldSoFar};
 
 // The most records of a file, 2^62; no file has as many.
 const MOST: usize = 4611686018427387904;
@@ -143,8 +143,7 @@ fn too_many(p: Progress) -> Replay
 
 // The file that begins with these bytes: their first eight are its header, and what follows comes
 // again with the next part. Where they are fewer they are all of the file.
-#[no_mangle]
-pub extern "C" fn uart_replay_begin(first: &[u8]) -> Progress
+pub fn begin(first: &[u8]) -> Progress
     ensures { λ r. ⌜ (8 ≤ length (now (first .entry)) → (rest : List ℕ) → restAnswer r (drop 8 (now (first .entry)) ++ rest) ≡ replayAnswer (captureOf (now (first .entry) ++ rest))) ⌝ }
     ensures { λ r. ⌜ (length (now (first .entry)) < 8 → restAnswer r [] ≡ replayAnswer (captureOf (now (first .entry)))) ⌝ }
     ensures { λ r. ⌜ r .done ≡ 0 ⌝ }
@@ -156,8 +155,7 @@ pub extern "C" fn uart_replay_begin(first: &[u8]) -> Progress
 
 // Replays the whole records of the bytes that come next. One to three bytes that are left come again
 // at the start of the next part.
-#[no_mangle]
-pub extern "C" fn uart_replay_more(p: Progress, bytes: &[u8]) -> Progress
+pub fn more(p: Progress, bytes: &[u8]) -> Progress
     ensures { λ r. ⌜ (p .done + length (now (bytes .entry)) / 4 ≤ 2 ^ 62 → (rest : List ℕ) → restAnswer r (drop (4 * (length (now (bytes .entry)) / 4)) (now (bytes .entry)) ++ rest) ≡ restAnswer p (now (bytes .entry) ++ rest)) ⌝ }
     ensures { λ r. ⌜ (2 ^ 62 < p .done + length (now (bytes .entry)) / 4 → r ≡ beyondOf p) ⌝ }
     ensures { λ r. ⌜ r .done ≤ p .done + length (now (bytes .entry)) / 4 ⌝ }
@@ -177,8 +175,7 @@ pub extern "C" fn uart_replay_more(p: Progress, bytes: &[u8]) -> Progress
 }
 
 // The answer for a file that ends with these bytes.
-#[no_mangle]
-pub extern "C" fn uart_replay_end(p: Progress, bytes: &[u8]) -> Replay
+pub fn end(p: Progress, bytes: &[u8]) -> Replay
     ensures { λ r. ⌜ (p .done + length (now (bytes .entry)) / 4 ≤ 2 ^ 62 → r ≡ restAnswer p (now (bytes .entry))) ⌝ }
     ensures { λ r. ⌜ (2 ^ 62 < p .done + length (now (bytes .entry)) / 4 → r ≡ replayAnswer («refused-at» 1 (p .state) 0)) ⌝ }
     ensures agreed { λ r. ⌜ (ToldSoFar p → r .values .number ≡ 0 → r .values .seen ≡ r .values .model → restOf (carriedOf p) (now (bytes .entry)) .outcome ≡ Outcome.Agreed) ⌝ }

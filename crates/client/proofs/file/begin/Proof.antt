@@ -1,19 +1,19 @@
 -- What is begun is handed out.
-use Rattle.export.proofs.Agreed.{capture-told, told-by-rest}
-use Rattle.export.proofs.Parts.{carried-again, told-handed, either}
+use Rattle.client.proofs.Agreed.{capture-told, told-by-rest}
+use Rattle.client.proofs.Parts.{carried-again, told-handed, either}
 use Rattle.capture_file.specs.File.{restOf}
 use Rattle.capture_file.specs.declared.Progress as parts
-use Rattle.export.specs.declared.file.Progress.{Progress}
-use Rattle.export.specs.Replay.{replayAnswer, Told}
-use Rattle.export.specs.File.{restAnswer}
+use Rattle.client.specs.declared.file.Progress.{Progress}
+use Rattle.client.specs.Replay.{replayAnswer, Told}
+use Rattle.client.specs.File.{restAnswer}
 use Prim.Native.Nat.{ℕ}
 use mathlib.Core.Path.{_≡_, sym, ap, subst, _∙_}
 use Rattle.capture.specs.declared.Replayed.{Replayed}
 use mathlib.Core.List.{List, [], _++_}
 use lib.ListN.{length, drop}
 use borrow.Author.Needs.{needs}
-use Rattle.export.proofs.file.uart_replay_begin.Statement.{statement}
-use Rattle.export.proofs.file.uart_replay_begin.Tie as tie
+use Rattle.client.proofs.file.begin.Statement.{statement}
+use Rattle.client.proofs.file.begin.Tie as tie
 
 begin-requires : tie.Need-begin-requires
 begin-requires c κs = search needs
@@ -41,5 +41,5 @@ returns c =
       ),
     )
 
-pub uart-replay-begin-spec : {M : Type 1} → statement M
-uart-replay-begin-spec = tie.close (tie.spec begin-requires handed-requires returns)
+pub begin-spec : {M : Type 1} → statement M
+begin-spec = tie.close (tie.spec begin-requires handed-requires returns)

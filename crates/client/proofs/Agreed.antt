@@ -13,13 +13,14 @@ use Rattle.device.specs.State.{freshOf}
 use Rattle.device.specs.declared.State.{State}
 use Rattle.device.specs.Ranges.{wellFormed}
 use Rattle.capture.specs.declared.Outcome.{Outcome}
-use Rattle.capture.specs.Replay.{refused, agreeing, modelByte, differing, replayFrom, replayOf}
+use Rattle.capture.specs.Replay.{refused, modelByte, differing, replayFrom, replayOf}
+use Rattle.capture.specs.Replay.{agreeing}
 use Rattle.capture_file.specs.File.{later, onward, ended, recordsOf, headedOf, captureOf, restOf}
 use Rattle.capture.specs.declared.Replayed.{Replayed}
 use Rattle.capture_file.specs.declared.Progress.{Progress}
 use Rattle.capture.proofs.Ways.{each-way}
 use Rattle.capture_file.proofs.Carried.{rest-none, is-agreed}
-use Rattle.export.specs.Replay.{Told}
+use Rattle.client.specs.Replay.{Told}
 
 and-false : (b : Bool) → b && false ≡ false
 and-false true = refl

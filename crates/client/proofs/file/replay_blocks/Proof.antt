@@ -1,12 +1,12 @@
 -- The bytes before `at` are replayed.
-use Rattle.export.proofs.Parts.{Blocks, block-done, last-done, last-place}
+use Rattle.client.proofs.Parts.{Blocks, block-done, last-done, last-place}
 use Prim.Native.Nat.{_+_, _-_, _≤_, _^_}
 use mathlib.Core.Path.{_≡_, refl}
 use lib.ListN.{length}
 use native.Mathlib.Omega.{arith}
 use borrow.Author.Needs.{needs}
-use Rattle.export.proofs.file.replay_blocks.Statement.{statement}
-use Rattle.export.proofs.file.replay_blocks.Tie as tie
+use Rattle.client.proofs.file.replay_blocks.Statement.{statement}
+use Rattle.client.proofs.file.replay_blocks.Tie as tie
 
 abbrev Inv-loop : tie.InvT-loop
 Inv-loop bytes records₀ q₀ at₀ records q at = (Blocks q₀ bytes q at) × (length records ≡ 4096) × (q₀ .place ≤ 2 ^ 62)

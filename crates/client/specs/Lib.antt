@@ -1,0 +1,3 @@
+-- What a replay answers to a client, and what it carries of a file.
+pub mod Replay
+pub mod File
