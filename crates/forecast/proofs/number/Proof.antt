@@ -13,7 +13,7 @@ both-requires c κs = search needs
 
 returns : tie.Need-returns
 unfolding forecastNumber noClock
-returns c = rw (c .before .before .before .before .before .pre, ← c .before .before .before .either .ensures, sym (c .before .both .ensures) ∙ c .if1 .taken)
+returns c = simp (c .before .before .before .before .before .pre, ← c .before .before .before .either .ensures, sym (c .before .both .ensures) ∙ c .if1 .taken)
 
 held-requires : tie.Need-held-requires
 held-requires c κs = search needs
@@ -23,11 +23,11 @@ both-requires-2 c κs = search needs
 
 returns-2 : tie.Need-returns-2
 unfolding forecastNumber noClock heldBack
-returns-2 c = rw (c .before .before .before .before .before .before .before .before .before .before .before .pre, ← c .before .before .before .before .before .before .before .before .before .either .ensures, sym (c .before .before .before .before .before .before .before .both .ensures) ∙ c .before .before .before .before .before .before .if1 .left, ← c .before .before .held .ensures, sym (c .before .both2 .ensures) ∙ c .if2 .taken)
+returns-2 c = simp (c .before .before .before .before .before .before .before .before .before .before .before .pre, ← c .before .before .before .before .before .before .before .before .before .either .ensures, sym (c .before .before .before .before .before .before .before .both .ensures) ∙ c .before .before .before .before .before .before .if1 .left, ← c .before .before .held .ensures, sym (c .before .both2 .ensures) ∙ c .if2 .taken)
 
 returns-3 : tie.Need-returns-3
 unfolding forecastNumber noClock heldBack
-returns-3 c = rw (c .before .before .before .before .before .before .before .before .before .before .before .pre, ← c .before .before .before .before .before .before .before .before .before .either .ensures, sym (c .before .before .before .before .before .before .before .both .ensures) ∙ c .before .before .before .before .before .before .if1 .left, ← c .before .before .held .ensures, sym (c .before .both2 .ensures) ∙ c .if2 .left)
+returns-3 c = simp (c .before .before .before .before .before .before .before .before .before .before .before .pre, ← c .before .before .before .before .before .before .before .before .before .either .ensures, sym (c .before .before .before .before .before .before .before .both .ensures) ∙ c .before .before .before .before .before .before .if1 .left, ← c .before .before .held .ensures, sym (c .before .both2 .ensures) ∙ c .if2 .left)
 
 pub number-spec : {M : Type 1} → statement M
 number-spec =
