@@ -353,14 +353,18 @@ static inline int uart_replay_file(FILE *file, struct uart_replayed *answer, uar
  * number answered is 100, the field after it 101, the output pins 102..107, the model's byte and the
  * place of a replay 108 and 109, a file's version, what stopped it and the records done 110..112.
  */
-uint32_t uart_size_of_state(void);
-uint32_t uart_size_of_answer(void);
-uint32_t uart_size_of_looked(void);
-uint32_t uart_size_of_forecasted(void);
-uint32_t uart_size_of_leveled(void);
-uint32_t uart_size_of_ran(void);
-uint32_t uart_size_of_replayed(void);
-uint32_t uart_size_of_progress(void);
+struct uart_sizes {
+    uint32_t state;
+    uint32_t answer;
+    uint32_t looked;
+    uint32_t forecasted;
+    uint32_t leveled;
+    uint32_t ran;
+    uint32_t replayed;
+    uint32_t progress;
+};
+
+struct uart_sizes uart_sizes_of_structs(void);
 struct uart_state uart_specimen_state(void);
 struct uart_answer uart_specimen_answer(void);
 struct uart_looked uart_specimen_looked(void);

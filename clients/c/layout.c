@@ -89,14 +89,16 @@ static void check_specimens(void)
 
 static void check_sizes(void)
 {
-    expect(uart_size_of_state() == sizeof(struct uart_state), "size of state");
-    expect(uart_size_of_answer() == sizeof(struct uart_answer), "size of answer");
-    expect(uart_size_of_looked() == sizeof(struct uart_looked), "size of looked");
-    expect(uart_size_of_forecasted() == sizeof(struct uart_forecasted), "size of forecasted");
-    expect(uart_size_of_leveled() == sizeof(struct uart_leveled), "size of leveled");
-    expect(uart_size_of_ran() == sizeof(struct uart_ran), "size of ran");
-    expect(uart_size_of_replayed() == sizeof(struct uart_replayed), "size of replayed");
-    expect(uart_size_of_progress() == sizeof(struct uart_progress), "size of progress");
+    const struct uart_sizes sizes = uart_sizes_of_structs();
+
+    expect(sizes.state == sizeof(struct uart_state), "size of state");
+    expect(sizes.answer == sizeof(struct uart_answer), "size of answer");
+    expect(sizes.looked == sizeof(struct uart_looked), "size of looked");
+    expect(sizes.forecasted == sizeof(struct uart_forecasted), "size of forecasted");
+    expect(sizes.leveled == sizeof(struct uart_leveled), "size of leveled");
+    expect(sizes.ran == sizeof(struct uart_ran), "size of ran");
+    expect(sizes.replayed == sizeof(struct uart_replayed), "size of replayed");
+    expect(sizes.progress == sizeof(struct uart_progress), "size of progress");
 }
 
 /* A state handed in reaches the library field by field: what it is refused for, and what not. */

@@ -74,10 +74,11 @@ SPECIMENS = {
 
 class Layout(unittest.TestCase):
     def test_sizes_and_specimens(self):
+        sizes = library.uart_sizes_of_structs()
         for struct, expected in SPECIMENS.items():
             name = struct.__name__.lower()
             with self.subTest(name):
-                self.assertEqual(getattr(library, "uart_size_of_" + name)(), ctypes.sizeof(struct))
+                self.assertEqual(getattr(sizes, name), ctypes.sizeof(struct))
                 self.assertEqual(named(getattr(library, "uart_specimen_" + name)()), expected)
 
     def test_a_state_handed_in_arrives(self):

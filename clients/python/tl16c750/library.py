@@ -15,6 +15,7 @@ from .structs import (
     Progress,
     Ran,
     Replayed,
+    Sizes,
     State,
     Versions,
 )
@@ -40,10 +41,10 @@ _CALLS: dict[str, tuple[Any, ...]] = {
     "replay_begin": (Progress, c_char_p, c_size_t),
     "replay_more": (Progress, Progress, c_char_p, c_size_t),
     "replay_end": (Replayed, Progress, c_char_p, c_size_t),
+    "sizes_of_structs": (Sizes,),
 }
 
 for _struct in (State, Answer, Looked, Forecasted, Leveled, Ran, Replayed, Progress):
-    _CALLS["size_of_" + _struct.__name__.lower()] = (c_uint32,)
     _CALLS["specimen_" + _struct.__name__.lower()] = (_struct,)
 
 

@@ -388,6 +388,20 @@ class Progress(Struct):
 
 
 @_struct
+class Sizes(Struct):
+    """The library's own size of each struct, in bytes."""
+
+    state: U32
+    answer: U32
+    looked: U32
+    forecasted: U32
+    leveled: U32
+    ran: U32
+    replayed: U32
+    progress: U32
+
+
+@_struct
 class Versions(Struct):
     """The library's version, and that of the layout of its structs."""
 

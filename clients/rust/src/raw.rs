@@ -288,6 +288,28 @@ pub struct Versions {
 /// The layout of the structs that this crate is written for.
 pub const LAYOUT: u32 = 1;
 
+/// The library's own size of each struct, in bytes.
+#[repr(C)]
+#[derive(Clone, Copy, Debug, PartialEq, Eq, Hash)]
+pub struct Sizes {
+    /// Of [`State`].
+    pub state: u32,
+    /// Of [`Answer`].
+    pub answer: u32,
+    /// Of [`Looked`].
+    pub looked: u32,
+    /// Of [`Forecasted`].
+    pub forecasted: u32,
+    /// Of [`Leveled`].
+    pub leveled: u32,
+    /// Of [`Ran`].
+    pub ran: u32,
+    /// Of [`Replayed`].
+    pub replayed: u32,
+    /// Of [`Progress`].
+    pub progress: u32,
+}
+
 // SAFETY: the signatures are those of crates/export, and no safe call has a condition on what it is
 // given; tests/layout.rs holds the structs against the library's own.
 unsafe extern "C" {
@@ -343,22 +365,8 @@ unsafe extern "C" {
     /// `count` bytes can be read at `bytes`.
     pub unsafe fn uart_replay_end(p: Progress, bytes: *const u8, count: usize) -> Replayed;
 
-    /// The library's own size of [`State`].
-    pub safe fn uart_size_of_state() -> u32;
-    /// The library's own size of [`Answer`].
-    pub safe fn uart_size_of_answer() -> u32;
-    /// The library's own size of [`Looked`].
-    pub safe fn uart_size_of_looked() -> u32;
-    /// The library's own size of [`Forecasted`].
-    pub safe fn uart_size_of_forecasted() -> u32;
-    /// The library's own size of [`Leveled`].
-    pub safe fn uart_size_of_leveled() -> u32;
-    /// The library's own size of [`Ran`].
-    pub safe fn uart_size_of_ran() -> u32;
-    /// The library's own size of [`Replayed`].
-    pub safe fn uart_size_of_replayed() -> u32;
-    /// The library's own size of [`Progress`].
-    pub safe fn uart_size_of_progress() -> u32;
+    /// The library's own sizes.
+    pub safe fn uart_sizes_of_structs() -> Sizes;
     /// A specimen of [`State`]: every byte of a field is the field's number.
     pub safe fn uart_specimen_state() -> State;
     /// A specimen of [`Answer`]: every byte of a field is the field's number.

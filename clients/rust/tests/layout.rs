@@ -149,14 +149,15 @@ fn fields_lie_as_in_the_specimens() {
 
 #[test]
 fn sizes_are_the_librarys() {
-    assert_eq!(uart_size_of_state() as usize, size_of::<State>());
-    assert_eq!(uart_size_of_answer() as usize, size_of::<Answer>());
-    assert_eq!(uart_size_of_looked() as usize, size_of::<Looked>());
-    assert_eq!(uart_size_of_forecasted() as usize, size_of::<Forecasted>());
-    assert_eq!(uart_size_of_leveled() as usize, size_of::<Leveled>());
-    assert_eq!(uart_size_of_ran() as usize, size_of::<Ran>());
-    assert_eq!(uart_size_of_replayed() as usize, size_of::<Replayed>());
-    assert_eq!(uart_size_of_progress() as usize, size_of::<Progress>());
+    let sizes = uart_sizes_of_structs();
+    assert_eq!(sizes.state as usize, size_of::<State>());
+    assert_eq!(sizes.answer as usize, size_of::<Answer>());
+    assert_eq!(sizes.looked as usize, size_of::<Looked>());
+    assert_eq!(sizes.forecasted as usize, size_of::<Forecasted>());
+    assert_eq!(sizes.leveled as usize, size_of::<Leveled>());
+    assert_eq!(sizes.ran as usize, size_of::<Ran>());
+    assert_eq!(sizes.replayed as usize, size_of::<Replayed>());
+    assert_eq!(sizes.progress as usize, size_of::<Progress>());
 }
 
 #[test]

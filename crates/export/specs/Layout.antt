@@ -14,6 +14,7 @@ use Rattle.device.specs.declared.Ran.{Ran}
 use Rattle.capture.specs.declared.Values.{Values}
 use Rattle.client.specs.declared.Replay.{Replay}
 use Rattle.client.specs.declared.file.Progress.{Progress}
+use Rattle.export.specs.declared.layout.Sizes.{Sizes}
 
 -- The bytes that a value takes, and what its place is a multiple of.
 pub record Shape : Type 0 where
@@ -53,7 +54,8 @@ fieldsAfter s (f ∷ fs) =
 -- a struct of these fields: as long as a multiple of its largest alignment
 abbrev pub structOf : List Shape → Shape
 structOf fs =
-    let s = fieldsAfter (record { size = 0; align = 1 }) fs in record { size = upTo (s .align) (s .size); align = s .align }
+    let s = fieldsAfter (record { size = 0; align = 1 }) fs in
+    record { size = upTo (s .align) (s .size); align = s .align }
 
 abbrev pub registersShape : Shape
 registersShape = structOf (byte ∷ byte ∷ byte ∷ byte ∷ [])
@@ -88,7 +90,8 @@ latchesShape = structOf (byte ∷ byte ∷ byte ∷ byte ∷ byte ∷ word ∷ [
 abbrev pub stateShape : Shape
 stateShape =
     structOf
-    (registersShape ∷ baudShape ∷ fifoShape ∷ inputsShape ∷ bytesShape ∷ frameShape ∷ entriesShape ∷ receiverShape ∷ latchesShape ∷ [])
+    (registersShape ∷ baudShape ∷ fifoShape ∷ inputsShape ∷ bytesShape ∷ frameShape ∷ entriesShape ∷ receiverShape
+    ∷ latchesShape ∷ [])
 
 abbrev pub outputsShape : Shape
 outputsShape = structOf (byte ∷ byte ∷ byte ∷ byte ∷ byte ∷ byte ∷ [])
@@ -116,6 +119,20 @@ replayedShape = structOf (valuesShape ∷ stateShape ∷ [])
 
 abbrev pub progressShape : Shape
 progressShape = structOf (word ∷ byte ∷ index ∷ valuesShape ∷ stateShape ∷ [])
+
+-- the sizes of the structs that a caller has
+abbrev pub sizes : Sizes
+sizes =
+    record {
+      state = stateShape .size;
+      answer = answerShape .size;
+      looked = lookedShape .size;
+      forecasted = forecastedShape .size;
+      leveled = leveledShape .size;
+      ran = ranShape .size;
+      replayed = replayedShape .size;
+      progress = progressShape .size;
+    }
 
 -- The specimens.
 
@@ -170,4 +187,10 @@ replayedSpecimen = record { values = valuesSpecimen; state = stateSpecimen }
 
 abbrev pub progressSpecimen : Progress
 progressSpecimen =
-    record { version = fourTimes 110; stopped = 111; done = eightTimes 112; values = valuesSpecimen; state = stateSpecimen }
+    record {
+      version = fourTimes 110;
+      stopped = 111;
+      done = eightTimes 112;
+      values = valuesSpecimen;
+      state = stateSpecimen;
+    }

@@ -28,64 +28,35 @@ use queue::ByteQueue;
 use queue::Entry;
 use queue::EntryQueue;
 ghost use mathlib.Core.Path.{_≡_};
-ghost use Rattle.export.specs.Layout.{stateShape, answerShape, lookedShape, forecastedShape, leveledShape, ranShape, replayedShape, progressShape};
-ghost use Rattle.export.specs.Layout.{stateSpecimen, answerSpecimen, lookedSpecimen, forecastedSpecimen, leveledSpecimen, ranSpecimen, valuesSpecimen, replayedSpecimen, progressSpecimen};
+ghost use Rattle.export.specs.Layout.{sizes, stateSpecimen, answerSpecimen, lookedSpecimen, forecastedSpecimen, leveledSpecimen, ranSpecimen, valuesSpecimen, replayedSpecimen, progressSpecimen};
 
 // The sizes in bytes.
-#[no_mangle]
-pub extern "C" fn uart_size_of_state() -> u32
-    ensures { λ r. ⌜ r ≡ stateShape .size ⌝ }
-{
-    376
+#[repr(C)]
+pub struct Sizes {
+    pub state: u32,
+    pub answer: u32,
+    pub looked: u32,
+    pub forecasted: u32,
+    pub leveled: u32,
+    pub ran: u32,
+    pub replayed: u32,
+    pub progress: u32,
 }
 
 #[no_mangle]
-pub extern "C" fn uart_size_of_answer() -> u32
-    ensures { λ r. ⌜ r ≡ answerShape .size ⌝ }
+pub extern "C" fn uart_sizes_of_structs() -> Sizes
+    ensures { λ r. ⌜ r ≡ sizes ⌝ }
 {
-    384
-}
-
-#[no_mangle]
-pub extern "C" fn uart_size_of_looked() -> u32
-    ensures { λ r. ⌜ r ≡ lookedShape .size ⌝ }
-{
-    7
-}
-
-#[no_mangle]
-pub extern "C" fn uart_size_of_forecasted() -> u32
-    ensures { λ r. ⌜ r ≡ forecastedShape .size ⌝ }
-{
-    8
-}
-
-#[no_mangle]
-pub extern "C" fn uart_size_of_leveled() -> u32
-    ensures { λ r. ⌜ r ≡ leveledShape .size ⌝ }
-{
-    2
-}
-
-#[no_mangle]
-pub extern "C" fn uart_size_of_ran() -> u32
-    ensures { λ r. ⌜ r ≡ ranShape .size ⌝ }
-{
-    384
-}
-
-#[no_mangle]
-pub extern "C" fn uart_size_of_replayed() -> u32
-    ensures { λ r. ⌜ r ≡ replayedShape .size ⌝ }
-{
-    392
-}
-
-#[no_mangle]
-pub extern "C" fn uart_size_of_progress() -> u32
-    ensures { λ r. ⌜ r ≡ progressShape .size ⌝ }
-{
-    408
+    Sizes {
+        state: 376,
+        answer: 384,
+        looked: 7,
+        forecasted: 8,
+        leveled: 2,
+        ran: 384,
+        replayed: 392,
+        progress: 408,
+    }
 }
 
 // The state: fields 1..33.

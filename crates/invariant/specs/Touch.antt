@@ -20,52 +20,34 @@ pub record Parts : Type 0 where
   pub receiver : Bool
   pub latches : Bool
 
+-- those of registers, baud, fifo, inputs, tx, frame, rx, receiver, latches that are told so
+abbrev pub parts : Bool → Bool → Bool → Bool → Bool → Bool → Bool → Bool → Bool → Parts
+parts r b f i t x q v l =
+    record {
+      registers = r;
+      baud = b;
+      fifo = f;
+      inputs = i;
+      tx = t;
+      frame = x;
+      rx = q;
+      receiver = v;
+      latches = l;
+    }
+
 -- The table. The rules that end a step touch the latches, so every row has them.
 
 -- a write that reaches no queue
 abbrev pub byNumbers : Parts
-byNumbers =
-    record {
-      registers = true;
-      baud = true;
-      fifo = false;
-      inputs = false;
-      tx = false;
-      frame = false;
-      rx = false;
-      receiver = false;
-      latches = true;
-    }
+byNumbers = parts true true false false false false false false true
 
 -- a write to THR
 abbrev pub byTransmit : Parts
-byTransmit =
-    record {
-      registers = false;
-      baud = false;
-      fifo = false;
-      inputs = false;
-      tx = true;
-      frame = false;
-      rx = false;
-      receiver = false;
-      latches = true;
-    }
+byTransmit = parts false false false false true false false false true
 
 -- a pulse
 abbrev pub byPulse : Parts
-byPulse =
-    record {
-      registers = false;
-      baud = false;
-      fifo = false;
-      inputs = false;
-      tx = true;
-      frame = true;
-      rx = true;
-      receiver = true;
-      latches = true;
-    }
+byPulse = parts false false false false true true true true true
 
 -- the state s with these parts of t in place of its own
 abbrev pub merged : Parts → State → State → State

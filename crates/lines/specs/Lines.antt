@@ -37,14 +37,16 @@ lastSaid w (c ∷ cs) = lineSaid w (c ∷ cs)
 
 -- The lines of a block from `from` on are made as far as `next`: the rest leads on from there; unless room was wanting
 -- no line is left; and with room for the longest answer, one at least is made.
-pub record Answered (w : Standing) (block : List ℕ) (from : ℕ) (w′ : Standing) (next : ℕ) (full : Bool) (room : ℕ) : Type 0 where
+pub record Answered (w : Standing) (block : List ℕ) (from : ℕ) (w′ : Standing) (next : ℕ) (full : Bool) (room : ℕ)
+    : Type 0 where
   pub inside : next ≤ length block
   pub leads : readAfter w [] (drop from block) ≡ readAfter w′ [] (drop next block)
   pub all : full ≡ false → before 10 (drop next block) ≡ length (drop next block)
   pub progress : full ≡ true → longestAnswer ≤ room → from < next
 
 -- Their answers: `out` holds them up to `end`, and what is written for the rest comes after them.
-pub record Answers (w : Standing) (block : List ℕ) (from : ℕ) (w′ : Standing) (next : ℕ) (out : List ℕ) (end : ℕ) : Type 0 where
+pub record Answers (w : Standing) (block : List ℕ) (from : ℕ) (w′ : Standing) (next : ℕ) (out : List ℕ) (end : ℕ)
+    : Type 0 where
   pub room : end ≤ length out
   pub counted : end ≡ length (take end out)
   pub written : writtenAfter w [] (drop from block) ≡ take end out ++ writtenAfter w′ [] (drop next block)
