@@ -180,8 +180,8 @@ pub fn end(p: Progress, bytes: &[u8]) -> Replay
     ensures { λ r. ⌜ (2 ^ 62 < p .done + length (now (bytes .entry)) / 4 → r ≡ replayAnswer («refused-at» 1 (p .state) 0)) ⌝ }
     ensures agreed { λ r. ⌜ (ToldSoFar p → r .values .number ≡ 0 → r .values .seen ≡ r .values .model → restOf (carriedOf p) (now (bytes .entry)) .outcome ≡ Outcome.Agreed) ⌝ }
 {
-    let done = p.done;
     let records = bytes.len() / 4;
+    let done = p.done;
     if MOST < done {
         return too_many(p);
     }

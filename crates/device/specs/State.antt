@@ -16,17 +16,7 @@ use Rattle.device.specs.declared.State.{State}
 -- a state of these parts
 abbrev pub state : Registers → Baud → FifoControl → Inputs → ByteQueue → Frame → EntryQueue → Receiver → Latches → State
 state r b f i t x q v l =
-    record {
-      registers = r;
-      baud = b;
-      fifo = f;
-      inputs = i;
-      tx = t;
-      frame = x;
-      rx = q;
-      receiver = v;
-      latches = l;
-    }
+    record { registers = r; baud = b; fifo = f; inputs = i; tx = t; frame = x; rx = q; receiver = v; latches = l }
 
 -- The state with one part put in place of the old.
 

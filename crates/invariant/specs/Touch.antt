@@ -23,17 +23,7 @@ pub record Parts : Type 0 where
 -- those of registers, baud, fifo, inputs, tx, frame, rx, receiver, latches that are told so
 abbrev pub parts : Bool → Bool → Bool → Bool → Bool → Bool → Bool → Bool → Bool → Parts
 parts r b f i t x q v l =
-    record {
-      registers = r;
-      baud = b;
-      fifo = f;
-      inputs = i;
-      tx = t;
-      frame = x;
-      rx = q;
-      receiver = v;
-      latches = l;
-    }
+    record { registers = r; baud = b; fifo = f; inputs = i; tx = t; frame = x; rx = q; receiver = v; latches = l }
 
 -- The table. The rules that end a step touch the latches, so every row has them.
 
