@@ -70,7 +70,6 @@ module _ (n : ℕ) (s : State) (d : ℕ) (t : State) (c : Setting) (k : ℕ) (x 
       let u = assembled t k x v l in
       let h = state-hearing u (g .kept) in
       record {
-        sent = h .sent;
         sin = rw (ap (λ (b : Setting). b .sin) (g .setting)) (h .sin);
         placed = h .placed;
         idle = state-idle u (g .kept);

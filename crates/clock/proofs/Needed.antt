@@ -17,7 +17,7 @@ use Rattle.device.specs.Receiver.{withEntry, withReceived}
 use Rattle.device.specs.Receiver.{samplesTaken}
 use Rattle.invariant.proofs.Good.{ReceiverFacts, good-of}
 use Rattle.invariant.proofs.Settled.{Kept}
-use Rattle.receiver.specs.Needs.{Sent, Placed, Hearing}
+use Rattle.receiver.specs.Needs.{Placed, Hearing}
 
 -- A well-formed state has it.
 
@@ -35,7 +35,6 @@ pub state-hearing : (s : State) → Kept s → Hearing s
 state-hearing s w =
     let g = good-of s (w .well) in
     record {
-      sent = record { left = g .transmit .frame .left-most };
       sin = g .settings .sin-most;
       placed = receiver-placed (s .receiver) (g .receive .receiver);
     }
@@ -45,27 +44,18 @@ state-idle s w = good-of s (w .well) .latches .wait .idle-most
 
 -- The parts of a pulse keep it.
 
--- L falls, so it stays within the frame
-pub shifted-sent : (x : Frame) → Sent x → Sent (shiftedOut x)
-unfolding shiftedOut
-shifted-sent x h =
-    let l = h .left in
-    by-test Sent (eqb (x .left - 1) 0) _ _ (λ _. record { left = omega arith }) (λ _. record { left = omega arith })
-
--- the transmitter leaves a whole frame or less of it, and does not touch the receiver and its pin
+-- the transmitter does not touch the receiver and its pin
 loaded-hearing : (s : State) → Hearing s → Hearing (loaded s)
 unfolding loaded
 loaded-hearing s h =
-    by-test Hearing (eqb (s .tx .count) 1) _ _
-    (λ _. record { sent = record { left = omega arith }; sin = h .sin; placed = h .placed })
-    (λ _. record { sent = record { left = omega arith }; sin = h .sin; placed = h .placed })
+    by-test Hearing (eqb (s .tx .count) 1) _ _ (λ _. record { sin = h .sin; placed = h .placed }) (λ _. record { sin = h .sin; placed = h .placed })
 
 pub transmitted-hearing : (s : State) → Hearing s → Hearing (transmitted s)
 unfolding transmitted
 transmitted-hearing s h =
     by-test Hearing (eqb (shiftedOut (s .frame) .left) 0 && ready s) _ _
     (λ _. loaded-hearing s h)
-    (λ _. record { sent = shifted-sent (s .frame) (h .sent); sin = h .sin; placed = h .placed })
+    (λ _. record { sin = h .sin; placed = h .placed })
 
 -- transmitter and receiver leave the idle count as it is
 abbrev idleCount : State → ℕ

@@ -3,7 +3,7 @@
 // Numbers and lists only. The contracts cite `specs/Format.antt` and `specs/Frame.antt`.
 use sheet::bits;
 ghost use mathlib.Core.Path.{_≡_};
-ghost use Prim.Native.Nat.{_≤_, _<_, _+_, _*_, _/_, _%_};
+ghost use Prim.Native.Nat.{_≤_, _<_, _+_, _-_, _*_, _/_, _%_};
 ghost use lib.ListN.{getD};
 ghost use Rattle.frame.specs.Format.{dataBits, parityBits, stopPulses, frameLength, characterOf, ones, parityBit};
 ghost use Rattle.frame.specs.Frame.{frameLevels, lineLevel};
@@ -98,13 +98,22 @@ pub fn frame_level(byte: u8, format: u8, place: u32) -> u8
     1
 }
 
+// a less b, or 0 where b is larger.
+pub fn less(a: u32, b: u32) -> u32
+    ensures { λ r. ⌜ r ≡ a - b ⌝ }
+{
+    if a < b {
+        return 0;
+    }
+    a - b
+}
+
 // The transmitter's line with `left` pulses left of the frame of this byte.
 pub fn line_level(left: u32, byte: u8, format: u8) -> u8
-    requires { ⌜ left ≤ frameLength format ⌝ }
     ensures { λ r. ⌜ (r ≡ lineLevel left byte format) × (r < 2) ⌝ }
 {
     if left == 0 {
         return 1;
     }
-    frame_level(byte, format, frame_length(format) - left)
+    frame_level(byte, format, less(frame_length(format), left))
 }

@@ -7,16 +7,13 @@ use device::modem;
 use sheet::bits;
 ghost use mathlib.Core.Path.{_≡_};
 ghost use mathlib.Core.Bool.{cond, not, _&&_};
-ghost use Prim.Native.Nat.{_≤_};
 ghost use Rattle.flag.specs.Flag.{on, bit, bitOf};
-ghost use Rattle.frame.specs.Format.{frameLength};
 ghost use Rattle.device.specs.Transmitter.{line};
 ghost use Rattle.device.specs.Pins.{outputs as «outputs-of»};
 
 // SOUT: outside loopback LCR6 makes it low; else it is high in loopback, the transmitter's line
 // outside.
 fn sout(loopback: bool, lcr: u8, x: Frame) -> u8
-    requires { ⌜ x .left ≤ frameLength (x .format) ⌝ }
     ensures { λ r. ⌜ r ≡ cond loopback 1 (cond (bit 6 lcr) 0 (line x)) ⌝ }
 {
     if flag::both(!loopback, flag::has(lcr, bits::LCR_SBC)) {
@@ -46,7 +43,6 @@ fn outside(mcr: u8, hold: u8, sout: u8, intrpt: u8) -> Outputs
 // The levels of the output pins; in loopback no modem output is asserted. INTRPT is high exactly when
 // the code is not 01.
 pub fn outputs(s: State) -> Outputs
-    requires { ⌜ s .frame .left ≤ frameLength (s .frame .format) ⌝ }
     ensures { λ r. ⌜ r ≡ «outputs-of» s ⌝ }
 {
     let r = s.registers;

@@ -107,16 +107,6 @@ fn smaller(a: u32, b: u32) -> u32
     if a < b { a } else { b }
 }
 
-// a less b, or 0 where b is larger.
-fn after(a: u32, b: u32) -> u32
-    ensures { λ r. ⌜ r ≡ a - b ⌝ }
-{
-    if a < b {
-        return 0;
-    }
-    a - b
-}
-
 // Only the n lowest bits of x may be set.
 fn within(x: u8, n: u32) -> bool
     requires { ⌜ n ≤ 8 ⌝ }
@@ -134,7 +124,7 @@ fn character_in_range(v: Receiver) -> bool
     let position = v.position;
     let taken = sampling::samples_taken(position);
     let bits = frame::data_bits(format);
-    let parity = smaller(frame::parity_bits(format), after(taken, bits));
+    let parity = smaller(frame::parity_bits(format), frame::less(taken, bits));
     both(
         format <= limits::FORMAT_MOST,
         both(

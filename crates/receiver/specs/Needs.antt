@@ -1,14 +1,9 @@
 -- What the parts of a pulse ask of their callers; every well-formed state has it.
 use Prim.Native.Nat.{ℕ, _≤_, _<_, _^_, min}
-use Rattle.frame.specs.Format.{dataBits, frameLength}
-use Rattle.device.specs.declared.Frame.{Frame}
+use Rattle.frame.specs.Format.{dataBits}
 use Rattle.device.specs.declared.Receiver.{Receiver}
 use Rattle.device.specs.declared.State.{State}
 use Rattle.device.specs.Receiver.{samplesTaken}
-
--- L is at most the frame's length
-pub record Sent (x : Frame) : Type 0 where
-  pub left : x .left ≤ frameLength (x .format)
 
 -- a position fits, and the samples fill the places taken so far
 pub record Placed (v : Receiver) : Type 0 where
@@ -22,6 +17,5 @@ pub record Sampling (h : ℕ) (v : Receiver) : Type 0 where
 
 -- the state as the receiver's part of a pulse finds it
 pub record Hearing (s : State) : Type 0 where
-  pub sent : Sent (s .frame)
   pub sin : s .inputs .sin ≤ 1
   pub placed : Placed (s .receiver)

@@ -19,7 +19,7 @@ ghost use Rattle.queue.specs.Queue.{isFull};
 ghost use Rattle.device.specs.Fifo.{capacity};
 ghost use Rattle.device.specs.Transmitter.{line};
 ghost use Rattle.device.specs.Receiver.{goesOn, startAt, isBreak, entryOf, stopSample, sampled, atPosition, inCharacter, receiverPulse, receiverPulseOf, withEntry, withReceived};
-ghost use Rattle.receiver.specs.Needs.{Sampling, Sent, Hearing};
+ghost use Rattle.receiver.specs.Needs.{Sampling, Hearing};
 
 // The receiver in no character: idle, or waiting for mark.
 fn outside(phase: u8) -> Receiver
@@ -174,7 +174,6 @@ pub fn receive(level: u8, lcr: u8, v: Receiver) -> Received
 
 // The level that the receiver hears: in loopback the transmitter's line, else SIN.
 pub fn heard(loopback: bool, x: Frame, sin: u8) -> u8
-    requires { ⌜ Sent x ⌝ }
     requires { ⌜ sin ≤ 1 ⌝ }
     ensures { λ r. ⌜ (r ≡ cond loopback (line x) sin) × (r ≤ 1) ⌝ }
 {

@@ -13,9 +13,7 @@ use ranges::well_formed;
 use sheet::answer;
 use sheet::limits;
 ghost use mathlib.Core.Path.{_≡_};
-ghost use Prim.Native.Nat.{ℕ, _≤_};
 ghost use lib.Dec.{leb};
-ghost use Rattle.frame.specs.Format.{frameLength};
 ghost use Rattle.device.specs.State.{freshOf};
 ghost use Rattle.device.specs.Pins.{outputs as «outputs-of», noOutputs};
 ghost use Rattle.device.specs.Calls.{refused as «refused-of», resetOf, readOf, writeOf, sinOf, modemOf, tickOf, ticksOf, ticksAnswer, pinsOf};
@@ -48,7 +46,6 @@ fn refused(number: u8, s: State) -> Answer
 
 // The answer of a step that left this state: the pins are those after it.
 fn answered(t: State, byte: u8) -> Answer
-    requires { ⌜ t .frame .left ≤ frameLength (t .frame .format) ⌝ }
     ensures { λ r. ⌜ r ≡ record { number = 0; byte = byte; outputs = «outputs-of» t; state = t } ⌝ }
 {
     let number = answer::DONE;

@@ -17,19 +17,21 @@ returns c = (simp (eq-eqb _ _ (c .if1 .taken)), omega arith)
 frame-length-requires : tie.Need-frame-length-requires
 frame-length-requires c κs = search needs
 
-sub-frame-level : tie.Need-sub-frame-level
-sub-frame-level c = search needs
+less-requires : tie.Need-less-requires
+less-requires c κs = search needs
 
 frame-level-requires : tie.Need-frame-level-requires
 frame-level-requires c κs = search needs
 
 returns-2 : tie.Need-returns-2
 returns-2 c =
-    let a = c .before .before .before .args in
-    let place = ap (λ (n : ℕ). getD (frameLevels (a .byte) (a .format)) (n - a .left) 1) (c .before .frame-length .ensures .0) in
-    (c .frame-level .ensures .0 ∙ place ∙ sym (line-place (a .left) (a .byte) (a .format) (c .before .before .if1 .left)), c .frame-level .ensures .1)
+    let length = c .before .before in
+    let a = length .before .before .args in
+    let levels : ℕ → ℕ = λ n. getD (frameLevels (a .byte) (a .format)) n 1 in
+    let place = c .before .less .ensures ∙ ap (λ (n : ℕ). n - a .left) (length .frame-length .ensures .0) in
+    (c .frame-level .ensures .0 ∙ ap levels place ∙ sym (line-place (a .left) (a .byte) (a .format) (length .before .if1 .left)), c .frame-level .ensures .1)
 
 pub line-level-spec : {M : Type 1} → statement M
 line-level-spec =
     tie.close
-    (tie.spec returns frame-length-requires sub-frame-level frame-level-requires returns-2)
+    (tie.spec returns frame-length-requires less-requires frame-level-requires returns-2)

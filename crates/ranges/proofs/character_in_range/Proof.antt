@@ -13,8 +13,8 @@ data-bits-requires c κs = search needs
 parity-bits-requires : tie.Need-parity-bits-requires
 parity-bits-requires c κs = search needs
 
-after-requires : tie.Need-after-requires
-after-requires c κs = search needs
+less-requires : tie.Need-less-requires
+less-requires c κs = search needs
 
 smaller-requires : tie.Need-smaller-requires
 smaller-requires c κs = search needs
@@ -41,7 +41,7 @@ both-requires-3 : tie.Need-both-requires-3
 both-requires-3 c κs = search needs
 
 returns : tie.Need-returns
-returns c = rw (c .both3 .ensures, c .before .both2 .ensures, c .before .before .both .ensures, c .before .before .before .before .within .ensures, c .before .before .before .before .before .smaller2 .ensures, c .before .before .before .before .before .before .stop-position .ensures .0, c .before .before .before .before .before .before .before .smaller .ensures, c .before .before .before .before .before .before .before .before .after .ensures, c .before .before .before .before .before .before .before .before .before .parity-bits .ensures .0, c .before .before .before .before .before .before .before .before .before .before .data-bits .ensures .0, c .before .before .before .before .before .before .before .before .before .before .before .samples-taken .ensures) (simp and-true)
+returns c = rw (c .both3 .ensures, c .before .both2 .ensures, c .before .before .both .ensures, c .before .before .before .before .within .ensures, c .before .before .before .before .before .smaller2 .ensures, c .before .before .before .before .before .before .stop-position .ensures .0, c .before .before .before .before .before .before .before .smaller .ensures, c .before .before .before .before .before .before .before .before .less .ensures, c .before .before .before .before .before .before .before .before .before .parity-bits .ensures .0, c .before .before .before .before .before .before .before .before .before .before .data-bits .ensures .0, c .before .before .before .before .before .before .before .before .before .before .before .samples-taken .ensures) (simp and-true)
 
 pub character-in-range-spec : {M : Type 1} → statement M
 character-in-range-spec =
@@ -50,7 +50,7 @@ character-in-range-spec =
     samples-taken-requires
     data-bits-requires
     parity-bits-requires
-    after-requires
+    less-requires
     smaller-requires
     stop-position-requires
     smaller-requires-2

@@ -8,7 +8,7 @@ loopback-requires : tie.Need-loopback-requires
 loopback-requires c κs = search needs
 
 heard-requires : tie.Need-heard-requires
-heard-requires c κs = (c .before .before .before .before .pre .sent, c .before .before .before .before .pre .sin)
+heard-requires c κs = c .before .before .before .before .pre .sin
 
 receive-requires : tie.Need-receive-requires
 receive-requires c κs = record { level = c .heard .ensures .1; placed = c .before .before .before .before .before .pre .placed }

@@ -12,7 +12,7 @@ returns : tie.Need-returns
 returns c = (c .line-level .ensures .0 ∙ simp (c .before .if1 .taken), omega arith)
 
 returns-2 : tie.Need-returns-2
-returns-2 c = (simp (c .if1 .left), c .before .pre .1)
+returns-2 c = (simp (c .if1 .left), c .before .pre)
 
 pub heard-spec : {M : Type 1} → statement M
 heard-spec = tie.close (tie.spec line-level-requires returns returns-2)

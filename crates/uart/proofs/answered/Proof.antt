@@ -4,7 +4,7 @@ use Rattle.uart.proofs.answered.Statement.{statement}
 use Rattle.uart.proofs.answered.Tie as tie
 
 outputs-requires : tie.Need-outputs-requires
-outputs-requires c κs = c .pre
+outputs-requires c κs = search needs
 
 returns : tie.Need-returns
 returns c = rw (c .outputs .ensures)

@@ -1,6 +1,5 @@
 -- The two rows of the table: 1, or the pins.
 use Rattle.device.specs.Calls.{pinsOf}
-use Rattle.invariant.proofs.Good.{good-of}
 use mathlib.Core.Path.{sym, _∙_}
 use borrow.Author.Tests.{not-true, not-false}
 use borrow.Author.Needs.{needs}
@@ -18,7 +17,7 @@ unfolding pinsOf
 returns c = rw (c .no-outputs .ensures) (simp (sym (c .before .before .well-formed .ensures) ∙ not-true _ (c .before .if1 .taken)))
 
 outputs-requires : tie.Need-outputs-requires
-outputs-requires c κs = good-of (c .before .before .args .s) (sym (c .before .well-formed .ensures) ∙ not-false _ (c .if1 .left)) .transmit .frame .left-most
+outputs-requires c κs = search needs
 
 returns-2 : tie.Need-returns-2
 unfolding pinsOf

@@ -1,18 +1,10 @@
 -- The rows of the table in their order: 1, 2, or done.
 use Rattle.device.specs.Calls.{done, readOf}
-use Rattle.device.specs.Autoflow.{settled}
-use Rattle.invariant.proofs.Good.{Places, good-of}
-use Rattle.invariant.proofs.Settled.{sound-of}
-use Rattle.invariant.proofs.Registers.{read-sound}
-use Rattle.queue.proofs.Laws.{length-mapped}
 use mathlib.Core.Path.{sym, _∙_}
 use borrow.Author.Tests.{not-true, not-false}
 use borrow.Author.Needs.{needs}
 use Rattle.uart.proofs.read.Statement.{statement}
 use Rattle.uart.proofs.read.Tie as tie
-
-places : (c : tie.Start) → Places (c .args .s)
-places c = record { bytes-long = search needs; entries-long = search (length-mapped, needs) }
 
 well-formed-requires : tie.Need-well-formed-requires
 well-formed-requires c κs = search needs
@@ -38,11 +30,7 @@ read-requires : tie.Need-read-requires
 read-requires c κs = sym (c .before .before .before .well-formed .ensures) ∙ not-false _ (c .before .before .if1 .left)
 
 answered-requires : tie.Need-answered-requires
-unfolding settled
-answered-requires c κs =
-    let a = c .before .before .before .before .before .before in
-    let w = sound-of (a .args .s) (places a) (good-of (a .args .s) (sym (c .before .before .before .before .before .well-formed .ensures) ∙ not-false _ (c .before .before .before .before .if1 .left))) in
-    rw (c .before .read .ensures) (read-sound (a .args .s) (a .args .address) w .transmit .frame .left-most)
+answered-requires c κs = search needs
 
 returns-3 : tie.Need-returns-3
 unfolding readOf done

@@ -1,9 +1,6 @@
 -- The two rows of the table: 1, or done.
 use Rattle.device.specs.Calls.{done, resetOf}
-use Rattle.device.specs.Autoflow.{settled}
-use Rattle.device.specs.State.{freshOf, resetState}
 use mathlib.Core.Path.{sym, _∙_}
-use native.Mathlib.Omega.{arith}
 use borrow.Author.Tests.{not-true, not-false}
 use borrow.Author.Needs.{needs}
 use Rattle.uart.proofs.reset.Statement.{statement}
@@ -23,8 +20,7 @@ reset-requires : tie.Need-reset-requires
 reset-requires c κs = search needs
 
 answered-requires : tie.Need-answered-requires
-unfolding settled resetState freshOf
-answered-requires c κs = rw (c .reset .ensures) (omega arith)
+answered-requires c κs = search needs
 
 returns-2 : tie.Need-returns-2
 unfolding resetOf done

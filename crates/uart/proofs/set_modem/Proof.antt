@@ -1,8 +1,5 @@
 -- The rows of the table in their order: 1, 3, or done.
 use Rattle.device.specs.Calls.{done, modemOf}
-use Rattle.device.specs.Autoflow.{settled}
-use Rattle.device.specs.Msr.{withLevels}
-use Rattle.invariant.proofs.Good.{good-of}
 use mathlib.Core.Path.{sym, _∙_}
 use borrow.Author.Tests.{le-leb, lt-leb, not-true, not-false}
 use borrow.Author.Needs.{needs}
@@ -30,10 +27,7 @@ set-modem-requires : tie.Need-set-modem-requires
 set-modem-requires c κs = search needs
 
 answered-requires : tie.Need-answered-requires
-unfolding settled withLevels
-answered-requires c κs =
-    let g = good-of (c .before .before .before .before .args .s) (sym (c .before .before .before .well-formed .ensures) ∙ not-false _ (c .before .before .if1 .left)) in
-    rw (c .set-modem .ensures) (g .transmit .frame .left-most)
+answered-requires c κs = search needs
 
 returns-3 : tie.Need-returns-3
 unfolding modemOf done

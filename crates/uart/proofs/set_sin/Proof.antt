@@ -1,7 +1,5 @@
 -- The rows of the table in their order: 1, 3, or done.
 use Rattle.device.specs.Calls.{done, sinOf}
-use Rattle.device.specs.Autoflow.{settled}
-use Rattle.invariant.proofs.Good.{good-of}
 use mathlib.Core.Path.{sym, _∙_}
 use borrow.Author.Tests.{le-leb, lt-leb, not-true, not-false}
 use borrow.Author.Needs.{needs}
@@ -29,10 +27,7 @@ set-sin-requires : tie.Need-set-sin-requires
 set-sin-requires c κs = sym (c .before .before .well-formed .ensures) ∙ not-false _ (c .before .if1 .left)
 
 answered-requires : tie.Need-answered-requires
-unfolding settled
-answered-requires c κs =
-    let g = good-of (c .before .before .before .before .args .s) (sym (c .before .before .before .well-formed .ensures) ∙ not-false _ (c .before .before .if1 .left)) in
-    rw (c .set-sin .ensures) (g .transmit .frame .left-most)
+answered-requires c κs = search needs
 
 returns-3 : tie.Need-returns-3
 unfolding sinOf done

@@ -1,16 +1,10 @@
 -- The two rows of the table: 1, or the ticks.
 use Rattle.device.specs.Calls.{ticksAnswer}
-use Rattle.invariant.proofs.Good.{Places, good-of}
-use Rattle.invariant.proofs.Steps.{ticks-kept}
-use Rattle.queue.proofs.Laws.{length-mapped}
 use mathlib.Core.Path.{sym, _∙_}
 use borrow.Author.Tests.{not-true, not-false}
 use borrow.Author.Needs.{needs}
 use Rattle.uart.proofs.ticks.Statement.{statement}
 use Rattle.uart.proofs.ticks.Tie as tie
-
-places : (c : tie.Start) → Places (c .args .s)
-places c = record { bytes-long = search needs; entries-long = search (length-mapped, needs) }
 
 well-formed-requires : tie.Need-well-formed-requires
 well-formed-requires c κs = search needs
@@ -26,10 +20,7 @@ advance-requires : tie.Need-advance-requires
 advance-requires c κs = sym (c .before .well-formed .ensures) ∙ not-false _ (c .if1 .left)
 
 answered-requires : tie.Need-answered-requires
-answered-requires c κs =
-    let a = c .before .before .before in
-    let k = ticks-kept (a .args .n) (a .args .s) (record { well = sym (c .before .before .well-formed .ensures) ∙ not-false _ (c .before .if1 .left); places = places a }) in
-    rw (c .advance .ensures) (good-of _ (k .well) .transmit .frame .left-most)
+answered-requires c κs = search needs
 
 returns-2 : tie.Need-returns-2
 unfolding ticksAnswer

@@ -1,19 +1,10 @@
 -- The rows of the table in their order: 1, 2, or done.
 use Rattle.device.specs.Calls.{done, writeOf}
-use Rattle.device.specs.Autoflow.{settled}
-use Rattle.invariant.proofs.Good.{Places, good-of}
-use Rattle.invariant.proofs.Settled.{sound-of}
-use Rattle.invariant.proofs.Registers.{write-sound}
-use Rattle.queue.proofs.Laws.{length-mapped}
-use Prim.Native.Nat.{_≤_}
 use mathlib.Core.Path.{sym, _∙_}
 use borrow.Author.Tests.{not-true, not-false}
 use borrow.Author.Needs.{needs}
 use Rattle.uart.proofs.write.Statement.{statement}
 use Rattle.uart.proofs.write.Tie as tie
-
-places : (c : tie.Start) → Places (c .args .s)
-places c = record { bytes-long = search needs; entries-long = search (length-mapped, needs) }
 
 well-formed-requires : tie.Need-well-formed-requires
 well-formed-requires c κs = search needs
@@ -39,12 +30,7 @@ write-requires : tie.Need-write-requires
 write-requires c κs = search needs
 
 answered-requires : tie.Need-answered-requires
-unfolding settled
-answered-requires c κs =
-    let a = c .before .before .before .before .before in
-    let w = sound-of (a .args .s) (places a) (good-of (a .args .s) (sym (c .before .before .before .before .well-formed .ensures) ∙ not-false _ (c .before .before .before .if1 .left))) in
-    let byte : a .args .byte ≤ 255 = search needs in
-    rw (c .write .ensures) (write-sound (a .args .s) (a .args .address) (a .args .byte) byte w .transmit .frame .left-most)
+answered-requires c κs = search needs
 
 returns-3 : tie.Need-returns-3
 unfolding writeOf done

@@ -1,6 +1,5 @@
 -- The ways of the definition, in its order; a pulse that only steps on is the receiver's.
 use Rattle.clock.specs.Quiet.{quietOf}
-use Rattle.clock.proofs.Needed.{shifted-sent}
 use Rattle.clock.proofs.Quieted.{steady-receives}
 use mathlib.Core.Path.{sym, _∙_}
 use borrow.Author.Needs.{needs}
@@ -34,7 +33,7 @@ unfolding quietOf
 returns-2 c = rw (c .later .ensures, c .before .step .ensures, ← c .before .before .before .before .before .before .before .shift-out .ensures, sym (c .before .before .before .before .before .both .ensures) ∙ c .before .before .before .before .if1 .left, steady-receives _ (c .before .before .before .before .before .before .before .shift-out .result) _ _ _ (sym (c .before .before .before .steady .ensures) ∙ c .before .before .if2 .taken))
 
 heard-requires : tie.Need-heard-requires
-heard-requires c κs = (rw (c .before .before .before .before .before .shift-out .ensures) (shifted-sent _ (c .before .before .before .before .before .before .pre .sent)), c .before .before .before .before .before .before .pre .sin)
+heard-requires c κs = c .before .before .before .before .before .before .pre .sin
 
 receive-requires : tie.Need-receive-requires
 receive-requires c κs = search needs
