@@ -6,7 +6,7 @@ ghost use mathlib.Core.Bool.{_&&_, _||_};
 ghost use mathlib.Core.List.{[], _∷_};
 ghost use Prim.Native.Nat.{_<_, _/_, _%_};
 ghost use lib.Dec.{eqb};
-ghost use Rattle.flag.specs.Flag.{bitOf, byteOf, differ as «differ-of»};
+ghost use Rattle.flag.specs.Flag.{bitOf, byteOf, differ as «differ-of», implies as «implies-of»};
 
 // Whether the bit of x that the power of two `mask` names is set.
 pub fn has(x: u8, mask: u8) -> bool
@@ -28,6 +28,13 @@ pub fn either(a: bool, b: bool) -> bool
     ensures { λ r. ⌜ r ≡ (a || b) ⌝ }
 {
     if a { true } else { b }
+}
+
+// Where a holds, b does.
+pub fn implies(a: bool, b: bool) -> bool
+    ensures { λ r. ⌜ r ≡ «implies-of» a b ⌝ }
+{
+    if a { b } else { true }
 }
 
 // One of the tests holds, and not both.

@@ -1,8 +1,8 @@
 -- The tests are the definition's, in its order.
 use mathlib.Core.Bool.{and-true}
 use borrow.Author.Needs.{needs}
-use Rattle.ranges.proofs.character_in_range.Statement.{statement}
-use Rattle.ranges.proofs.character_in_range.Tie as tie
+use Rattle.queue_ranges.proofs.character_in_range.Statement.{statement}
+use Rattle.queue_ranges.proofs.character_in_range.Tie as tie
 
 samples-taken-requires : tie.Need-samples-taken-requires
 samples-taken-requires c κs = search needs

@@ -1,7 +1,7 @@
 -- The tests are the definition's.
 use borrow.Author.Needs.{needs}
-use Rattle.ranges.proofs.frame_in_range.Statement.{statement}
-use Rattle.ranges.proofs.frame_in_range.Tie as tie
+use Rattle.queue_ranges.proofs.frame_in_range.Statement.{statement}
+use Rattle.queue_ranges.proofs.frame_in_range.Tie as tie
 
 both-requires : tie.Need-both-requires
 both-requires c κs = search needs

@@ -6,8 +6,8 @@ use lib.Dec.{ltb}
 use mathlib.Core.Path.{ap, _∙_}
 use native.Mathlib.Omega.{arith}
 use borrow.Author.Needs.{needs}
-use Rattle.ranges.proofs.within.Statement.{statement}
-use Rattle.ranges.proofs.within.Tie as tie
+use Rattle.queue_ranges.proofs.within.Statement.{statement}
+use Rattle.queue_ranges.proofs.within.Tie as tie
 
 shl-end : tie.Need-shl-end
 shl-end c = search needs

@@ -1,8 +1,8 @@
 -- The tests are the definition's, in its order.
 use mathlib.Core.Bool.{and-true}
 use borrow.Author.Needs.{needs}
-use Rattle.ranges.proofs.transmit_in_range.Statement.{statement}
-use Rattle.ranges.proofs.transmit_in_range.Tie as tie
+use Rattle.queue_ranges.proofs.transmit_in_range.Statement.{statement}
+use Rattle.queue_ranges.proofs.transmit_in_range.Tie as tie
 
 capacity-requires : tie.Need-capacity-requires
 capacity-requires c κs = search needs

@@ -2,8 +2,8 @@
 use mathlib.Core.Path.{_∙_}
 use borrow.Author.Tests.{eq-eqb, ne-eqb}
 use borrow.Author.Needs.{needs}
-use Rattle.ranges.proofs.receiver_in_range.Statement.{statement}
-use Rattle.ranges.proofs.receiver_in_range.Tie as tie
+use Rattle.queue_ranges.proofs.receiver_in_range.Statement.{statement}
+use Rattle.queue_ranges.proofs.receiver_in_range.Tie as tie
 
 character-in-range-requires : tie.Need-character-in-range-requires
 character-in-range-requires c κs = search needs
