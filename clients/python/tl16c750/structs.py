@@ -396,7 +396,7 @@ class Replayed(Struct):
 @_struct
 class Progress(Struct):
     """Where a file stands: its version, what stopped it (0 nothing so far, 1 a read that differs, 2 a
-    refusal) and how, the records done, the state."""
+    refusal) and how, the records given so far, the state."""
 
     version: U32
     stopped: U8
