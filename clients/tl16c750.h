@@ -324,6 +324,7 @@ static inline struct uart_replayed uart_replay_bytes_telling(const uint8_t *byte
     return answer;
 }
 
+/* The same, telling nothing. */
 static inline struct uart_replayed uart_replay_bytes(const uint8_t *bytes, size_t count)
 {
     return uart_replay_bytes_telling(bytes, count, NULL, NULL);
