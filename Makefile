@@ -2,14 +2,19 @@
 # where users look, `make uninstall PREFIX=..` takes them away. `rt` proves what it compiles.
 PREFIX = /usr/local
 PYTHON = python3
-PYTHONDIR = $(PREFIX)/lib/python$(PYTHON_VERSION)/site-packages
 CC = gcc
 OUT = target/clients
 
 HEADER = clients/tl16c750.h
 VERSION := $(shell awk '/define UART_VERSION_/ { printf "%s%s", dot, $$3; dot = "." }' $(HEADER))
 LAYOUT := $(shell awk '/define UART_LAYOUT/ { print $$3 }' $(HEADER))
-PYTHON_VERSION = $(shell $(PYTHON) -c 'import sys; print("%d.%d" % sys.version_info[:2])')
+override PREFIX := $(abspath $(PREFIX))
+
+# The first folder below PREFIX in which PYTHON looks for packages, or the usual one where it looks in none.
+PYTHONDIR = $(shell $(PYTHON) -c 'import site, sys; lib = "$(PREFIX)/lib/"; print(next( \
+    (d for d in site.getsitepackages() if d.startswith(lib)), \
+    lib + "python%d.%d/site-packages" % sys.version_info[:2]))')
+PYTHON_LOOKS = $(PYTHON) -c 'import site, sys; sys.exit("$(PYTHONDIR)" not in site.getsitepackages())'
 
 # $(call sources_of,CRATE): the code of a crate and of all that it uses.
 sources_of = $(wildcard $(patsubst %,crates/%/src/*.rt,$1 $(shell sed -n 's/^$1://p' crates.txt)))
@@ -21,7 +26,8 @@ STATIC = $(OUT)/libtl16c750.a
 SHARED = $(OUT)/libtl16c750.so
 
 SHARE = $(DESTDIR)$(PREFIX)/share/tl16c750
-PACKAGE = $(DESTDIR)$(PYTHONDIR)/tl16c750
+PACKAGE = $(DESTDIR)$(abspath $(PYTHONDIR))/tl16c750
+PAGES = docs/CAPTURE.md docs/CALLS.md
 
 # $(call quietly,NAME,COMMAND): what the command writes goes to a file, and is shown where it fails.
 quietly = @mkdir -p $(OUT) && echo '$2' && { $2 >$(OUT)/$1.log 2>&1 || { cat $(OUT)/$1.log; exit 1; }; }
@@ -64,11 +70,17 @@ install: all
 	install -d $(PACKAGE)
 	install -m 644 clients/python/tl16c750/*.py clients/python/tl16c750/py.typed $(PACKAGE)
 	install -m 755 $(SHARED) $(PACKAGE)
-	install -d $(SHARE)/examples $(SHARE)/rust/src $(SHARE)/rust/examples
+	install -d $(SHARE)/docs $(SHARE)/examples $(SHARE)/rust/src $(SHARE)/rust/examples
+	install -m 644 $(PAGES) $(SHARE)/docs
 	install -m 644 clients/c/example.c clients/python/example.py $(SHARE)/examples
 	install -m 644 clients/rust/Cargo.toml clients/rust/Cargo.lock clients/rust/build.rs $(SHARE)/rust
 	install -m 644 clients/rust/src/*.rs $(SHARE)/rust/src
 	install -m 644 clients/rust/examples/*.rs $(SHARE)/rust/examples
+	@echo 'Programs linked with the shared library: run ldconfig, where it knows $(PREFIX)/lib; else they'
+	@echo 'start with LD_LIBRARY_PATH=$(PREFIX)/lib'
+	@if $(PYTHON_LOOKS); \
+	then echo 'Python: $(PYTHON) finds the package in $(PYTHONDIR)'; \
+	else echo 'Python: $(PYTHON) finds the package with PYTHONPATH=$(abspath $(PYTHONDIR))'; fi
 
 uninstall:
 	rm -f $(PROGRAMS:%=$(DESTDIR)$(PREFIX)/bin/%) $(TOOLS:%=$(DESTDIR)$(PREFIX)/bin/%)

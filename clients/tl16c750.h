@@ -215,7 +215,7 @@ struct uart_replayed {
 #define UART_DIFFERS 1
 #define UART_REFUSED 2
 
-/* Where a file stands: its version, what stopped it and how, the records done, the state. */
+/* Where a file stands: its version, what stopped it and how, the records given so far, the state. */
 struct uart_progress {
     uint32_t version;
     uint8_t stopped;
@@ -278,7 +278,8 @@ struct uart_replayed uart_replay(struct uart_state s, uint32_t version, const ui
  * One to three bytes at the end of a part that make no whole record are given again at the start of
  * the next part. The answer is that of the whole file, whatever its parts are; it ends as a replay
  * does, and beside that with
- *   UART_BAD_RECORD at place 0: shorter than a header; UART_BAD_HEADER at place 0;
+ *   UART_BAD_RECORD at place 0: shorter than a header; UART_BAD_HEADER at place 0; as with an unknown
+ *   version the state is then the fresh one;
  *   UART_BAD_RECORD at the number of whole records: one to three bytes are left.
  * Once `stopped` is not UART_GOING_ON, nothing that comes next changes the answer. A file of more than
  * 2^62 records is refused with UART_MALFORMED.
@@ -288,19 +289,48 @@ struct uart_progress uart_replay_more(struct uart_progress p, const uint8_t *byt
 struct uart_replayed uart_replay_end(struct uart_progress p, const uint8_t *bytes, size_t count);
 
 #define UART_HEADER_BYTES 8
+#define UART_PART_BYTES 16384 /* handed on at a time */
 
-/* Replays a capture's file that is in memory. */
+/*
+ * Told after each part of a file, and at its end: the records done, the bytes read, and of how many (0
+ * where that is not known). The last time the records are those before the place where it stopped.
+ */
+typedef void uart_progress_call(void *context, size_t records, size_t bytes, size_t of);
+
+/* The records done of a file that ended so: all that were given, or those before the place. */
+static inline size_t uart_records_done(const struct uart_values *v, size_t given)
+{
+    return v->number == UART_DONE && v->seen == v->model ? given : v->place;
+}
+
+/* Replays a capture's file that is in memory. `call` may be NULL. */
+static inline struct uart_replayed uart_replay_bytes_telling(const uint8_t *bytes, size_t count,
+                                                             uart_progress_call *call, void *context)
+{
+    size_t at = count < UART_HEADER_BYTES ? count : UART_HEADER_BYTES;
+    struct uart_progress p = uart_replay_begin(bytes, at);
+    struct uart_replayed answer;
+
+    while (p.stopped == UART_GOING_ON && count - at >= UART_PART_BYTES) {
+        p = uart_replay_more(p, bytes + at, UART_PART_BYTES);
+        at += UART_PART_BYTES;
+        if (call && p.stopped == UART_GOING_ON)
+            call(context, p.done, at, count);
+    }
+    answer = uart_replay_end(p, bytes + at, count - at);
+    if (call)
+        call(context, uart_records_done(&answer.values, p.done + (count - at) / 4),
+             p.stopped == UART_GOING_ON ? count : at, count);
+    return answer;
+}
+
+/* The same, telling nothing. */
 static inline struct uart_replayed uart_replay_bytes(const uint8_t *bytes, size_t count)
 {
-    size_t header = count < UART_HEADER_BYTES ? count : UART_HEADER_BYTES;
-
-    return uart_replay_end(uart_replay_begin(bytes, header), bytes + header, count - header);
+    return uart_replay_bytes_telling(bytes, count, NULL, NULL);
 }
 
 #ifndef UART_NO_STDIO
-/* Told now and then: the records done, the bytes read, and of how many (0 where that is not known). */
-typedef void uart_progress_call(void *context, size_t records, size_t bytes, size_t of);
-
 /* The bytes from where a file stands to its end; 0 where it has no end to be told, as a pipe. */
 static inline size_t uart_bytes_left(FILE *file)
 {
@@ -320,7 +350,7 @@ static inline size_t uart_bytes_left(FILE *file)
 static inline int uart_replay_file(FILE *file, struct uart_replayed *answer, uart_progress_call *call,
                                    void *context)
 {
-    uint8_t part[16384];
+    uint8_t part[UART_PART_BYTES];
     size_t of = call ? uart_bytes_left(file) : 0;
     size_t got = fread(part, 1, UART_HEADER_BYTES, file);
     size_t bytes = got;
@@ -334,14 +364,14 @@ static inline int uart_replay_file(FILE *file, struct uart_replayed *answer, uar
             break;
         p = uart_replay_more(p, part, got);
         got = 0;
-        if (call)
+        if (call && p.stopped == UART_GOING_ON)
             call(context, p.done, bytes, of);
     }
     if (ferror(file))
         return -1;
     *answer = uart_replay_end(p, part, got);
     if (call)
-        call(context, p.done + got / 4, bytes, of);
+        call(context, uart_records_done(&answer->values, p.done + got / 4), bytes, of);
     return 0;
 }
 #endif

@@ -36,7 +36,7 @@ static const char help[] =
     "\n"
     "A listing made from a capture has each record's place behind it, counted from 0 as in an answer\n"
     "of the program `replay`. The status is 0, or 2 where the input is bad, or reading or writing\n"
-    "failed. docs/CAPTURE.md has the capture's format.\n";
+    "failed. The capture's format stands in docs/CAPTURE.md, installed in share/tl16c750.\n";
 
 static _Noreturn void stop(const char *what)
 {
@@ -60,6 +60,13 @@ static void want_written(FILE *out)
 {
     if (fflush(out) != 0 || ferror(out))
         stop("writing");
+}
+
+/* Tells what is awaited, where standard input is a terminal. */
+static void hint(const char *awaited)
+{
+    if (isatty(STDIN_FILENO))
+        fprintf(stderr, "capture: %s\n", awaited);
 }
 
 /* ---- A listing into a capture ---- */
@@ -250,8 +257,7 @@ static void make_capture(void)
 
     if (made == NULL)
         stop("making a temporary file");
-    if (isatty(STDIN_FILENO))
-        fputs("capture: a listing is read from the terminal; Ctrl-D ends it\n", stderr);
+    hint("a listing is read from the terminal; Ctrl-D ends it");
     utr_write_header(made);
     while (read_line(&line))
         write_line(made, &line);
@@ -311,11 +317,13 @@ static void list_record(uint32_t word, uint64_t place)
 static void list_capture(void)
 {
     static uint32_t words[UTR_BLOCK];
-    struct utr_header header = utr_read_header(stdin);
+    struct utr_header header;
     struct utr_rest rest;
     uint64_t place = 0;
     size_t count;
 
+    hint("a capture is awaited, not a terminal; see capture --help");
+    header = utr_read_header(stdin);
     want_read(stdin);
     if (utr_header_number(&header) != 0) {
         fputs("capture: ", stderr);

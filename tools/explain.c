@@ -36,7 +36,7 @@ static const char help[] =
     "\n"
     "Colours only where standard output is a terminal and NO_COLOR is not set. The status is 0 where\n"
     "the capture agrees, 1 where it differs, 2 where it is refused or something went wrong.\n"
-    "docs/CAPTURE.md has the capture's format.\n";
+    "The capture's format stands in docs/CAPTURE.md, installed in share/tl16c750.\n";
 
 struct options {
     size_t context;
@@ -81,6 +81,7 @@ static void pass(struct position *position, const uint32_t *words, size_t count)
 
 /* The block of records in which a replay ended, the one before it and the one behind it. */
 struct window {
+    uint32_t version;
     struct position first; /* of the words */
     struct position end;   /* where the replay ended */
     struct model_outcome outcome;
@@ -98,7 +99,7 @@ static size_t read_block(FILE *in, struct window *window, struct utr_rest *rest)
     return count;
 }
 
-/* Replays the records of a file up to the place where it stops. */
+/* Replays the records of a file of the window's version up to the place where it stops. */
 static void replay(FILE *in, struct window *window)
 {
     struct utr_rest unused;
@@ -112,7 +113,7 @@ static void replay(FILE *in, struct window *window)
         struct position before = window->end;
 
         got = read_block(in, window, &window->rest);
-        window->outcome = model_replay(&window->end.state, block, got);
+        window->outcome = model_replay(&window->end.state, window->version, block, got);
         pass(&window->end, block, window->outcome.place);
         if (window->outcome.end != MODEL_AGREED || got < UTR_BLOCK)
             break;
@@ -234,7 +235,7 @@ static void list_context(const struct window *window, size_t context)
     struct position position = window->first;
 
     list_heading();
-    model_replay(&position.state, window->words, from);
+    model_replay(&position.state, window->version, window->words, from);
     pass(&position, window->words, from);
     for (size_t i = from; i < to; i++)
         list_record(&position, window->words[i]);
@@ -290,10 +291,11 @@ static void tell_bad_record(const struct window *window)
 {
     const struct position *end = &window->end;
     uint64_t whole = UTR_HEADER_BYTES + UTR_RECORD_BYTES * end->place;
+    bool at_record = window->outcome.end == MODEL_REFUSED;
 
-    printf("refused %d %" PRIu64 "\n", UTR_BAD_RECORD, end->place);
+    printf("refused %u %" PRIu64 "\n", at_record ? window->outcome.number : UTR_BAD_RECORD, end->place);
     printf("\n%sRecord %" PRIu64 ", %" PRIu64 " ticks after the first: ", red, end->place, end->ticks);
-    if (window->outcome.end == MODEL_BAD_RECORD) {
+    if (at_record) {
         utr_tell_record(stdout, window->words[end->place - window->first.place]);
         printf("%s\nThe records before it agree. Where those behind it make sense, this word is damaged;\n"
                "where they make none, bytes were lost or added here. Record again, or replay what stands\n"
@@ -349,16 +351,17 @@ static enum status explain(FILE *in, const struct options *options)
     static struct window window;
     struct utr_header header = utr_read_header(in);
     long begin = options->all ? ftell(in) : 0;
-    unsigned number;
+    struct model_header judged;
     enum status status;
 
     if (ferror(in))
         stop("reading");
-    number = model_header_number(header.bytes, header.count);
-    if (number != 0) {
-        tell_refused_header(&header, number);
+    judged = model_header(header.bytes, header.count);
+    if (judged.number != 0) {
+        tell_refused_header(&header, judged.number);
         return REFUSED;
     }
+    window.version = judged.version;
     replay(in, &window);
     status = status_of(&window);
     if (status == AGREED)

@@ -2,9 +2,12 @@
 
 #include "utr.h"
 
-unsigned model_header_number(const uint8_t *header, size_t count)
+struct model_header model_header(const uint8_t *bytes, size_t count)
 {
-    return uart_replay_end(uart_replay_begin(header, count), header + count, 0).values.number;
+    const struct uart_progress begun = uart_replay_begin(bytes, count);
+    struct model_header header = {uart_replay_end(begun, bytes + count, 0).values.number, begun.version};
+
+    return header;
 }
 
 struct uart_state model_fresh(void)
@@ -12,14 +15,15 @@ struct uart_state model_fresh(void)
     return uart_fresh();
 }
 
-struct model_outcome model_replay(struct uart_state *state, const uint32_t *records, size_t count)
+struct model_outcome model_replay(struct uart_state *state, uint32_t version, const uint32_t *records,
+                                  size_t count)
 {
-    const struct uart_replayed answer = uart_replay(*state, UTR_VERSION, records, count);
+    const struct uart_replayed answer = uart_replay(*state, version, records, count);
     const struct uart_values *values = &answer.values;
-    struct model_outcome outcome = {MODEL_AGREED, count, values->seen, values->model};
+    struct model_outcome outcome = {MODEL_AGREED, values->number, count, values->seen, values->model};
 
-    if (values->number == UART_BAD_RECORD)
-        outcome.end = MODEL_BAD_RECORD;
+    if (values->number != UART_DONE)
+        outcome.end = MODEL_REFUSED;
     else if (values->seen != values->model)
         outcome.end = MODEL_DIFFERS;
     if (outcome.end != MODEL_AGREED)

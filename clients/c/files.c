@@ -1,7 +1,7 @@
 /*
  * files FILE..: how the replay of each capture ends, a line for each, as the program `replay` tells it.
  * A file read from the disk, the same in memory, and the same in parts of every odd size up to 21 bytes
- * must answer alike.
+ * must answer alike, and tell of as many records.
  */
 #include "tl16c750.h"
 
@@ -26,6 +26,15 @@ static void told(void *context, size_t records, size_t got, size_t of)
     last->records = records;
     last->bytes = got;
     last->of = of;
+}
+
+/* Whether the last that was told are the records before the place, or all of a file that agrees. */
+static int told_right(const struct told *last, const struct uart_values *v, size_t count)
+{
+    int agreed = v->number == UART_DONE && v->seen == v->model;
+
+    return last->records == (agreed ? (count - UART_HEADER_BYTES) / 4 : v->place) &&
+           last->bytes <= count && last->of == count;
 }
 
 static int same(struct uart_replayed a, struct uart_replayed b)
@@ -69,12 +78,15 @@ static int replay(const char *path)
     count = fread(bytes, 1, sizeof bytes, file);
     fclose(file);
     print(answer.values);
-    if (last.of != count || last.bytes > count || last.records > count / 4)
+    if (!told_right(&last, &answer.values, count))
         return -1;
     for (size_t size = 5; size <= 21; size += 2)
         if (!same(answer, in_parts(count, size)))
             return -1;
-    return same(answer, uart_replay_bytes(bytes, count)) ? 0 : -1;
+    if (!same(answer, uart_replay_bytes(bytes, count)) ||
+        !same(answer, uart_replay_bytes_telling(bytes, count, told, &last)))
+        return -1;
+    return told_right(&last, &answer.values, count) ? 0 : -1;
 }
 
 int main(int argc, char **argv)

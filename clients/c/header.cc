@@ -14,14 +14,14 @@ int main()
 {
     const std::uint8_t capture[] = {'U', 'T', 'R', 0, 1, 0, 0, 0, 0x60, 5, 0, 0x10};
     uart_state fresh = uart_fresh();
-    uart_replayed answer = uart_replay_bytes(capture, sizeof capture);
     std::FILE *file = std::tmpfile();
     int calls = 0;
+    uart_replayed answer = uart_replay_bytes_telling(capture, sizeof capture, count_calls, &calls);
 
     if (file == nullptr || std::fwrite(capture, 1, sizeof capture, file) != sizeof capture)
         return EXIT_FAILURE;
     std::rewind(file);
-    if (uart_replay_file(file, &answer, count_calls, &calls) != 0 || calls != 1)
+    if (uart_replay_file(file, &answer, count_calls, &calls) != 0 || calls != 2)
         return EXIT_FAILURE;
     std::fclose(file);
     return answer.values.number == UART_DONE && answer.values.seen == answer.values.model &&

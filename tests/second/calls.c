@@ -3,11 +3,13 @@
  * answer each. It keeps one current state, fresh at the start. A line that is
  * not exactly one of the forms is answered `bad` and changes nothing.
  */
+#include "arguments.h"
 #include "capture.h"
 #include "stream.h"
 
 #include <stdlib.h>
 #include <string.h>
+#include <unistd.h>
 
 #define BLOCK 65536u
 #define MOST_WORDS 1024u
@@ -17,6 +19,15 @@
 /* The longest answer is the numbers of a state, a space or the newline after each. */
 #define LONGEST_ANSWER (UART_STATE_PLACES * 11u)
 #define MOST_DIGITS 10u
+
+static const char help[] =
+    "usage: calls [--help]\n"
+    "\n"
+    "Takes calls from standard input, one to a line, and writes a line of answer for each:\n"
+    "fresh, load V1 .. V348, state, reset, read A, write A B, sin V, modem V, tick, ticks N,\n"
+    "pins, forecast, level T, run N, replay V W..  Any other line is answered bad.\n"
+    "\n"
+    "The exit status is 0, or 2 where an argument is unknown, or reading or writing failed.\n";
 
 static struct uart current;
 
@@ -32,7 +43,7 @@ static size_t out_used;
 static void flush_output(void)
 {
     if (!stream_write(out, out_used))
-        exit(EXIT_FAILURE);
+        exit(EXIT_TROUBLE);
     out_used = 0;
 }
 
@@ -316,12 +327,13 @@ static void answer_whole_lines(void)
     memmove(in, at, in_used);
 }
 
-int main(void)
+int main(int argc, char **argv)
 {
     ssize_t n;
 
+    arguments_take(argc, argv, false, help);
     uart_fresh(&current);
-    while ((n = stream_read(in + in_used, sizeof in - in_used)) > 0) {
+    while ((n = stream_read(STDIN_FILENO, in + in_used, sizeof in - in_used)) > 0) {
         in_used += (size_t)n;
         answer_whole_lines();
         flush_output();
@@ -329,5 +341,5 @@ int main(void)
     if (in_used > 0 || in_overlong)
         end_line(in, in_used);
     flush_output();
-    return n < 0 ? EXIT_FAILURE : EXIT_SUCCESS;
+    return n < 0 ? EXIT_TROUBLE : EXIT_SUCCESS;
 }

@@ -17,8 +17,8 @@ import tempfile
 
 HERE = os.path.dirname(os.path.abspath(__file__))
 PROGRAMS = ("calls", "replay")
-MODEL = ("model.c", "capture.c", "stream.c")
-HEADERS = ("model.h", "capture.h", "stream.h")
+MODEL = ("model.c", "capture.c", "stream.c", "arguments.c")
+HEADERS = ("model.h", "capture.h", "stream.h", "arguments.h")
 
 # Name, file, text, text in its place. The text stands exactly once in the file.
 MUTANTS = [
@@ -630,10 +630,9 @@ MUTANTS = [
     ("bytes left over before a difference", "replay.c",
      "answer.outcome == REPLAY_AGREED && used % RECORD_BYTES", "used % RECORD_BYTES"),
     ("places from each block's start", "replay.c", "        answer.place += before;\n", ""),
-    ("each block from the fresh state", "replay.c", "        used = fill(bytes, sizeof bytes);\n",
-     "        uart_fresh(&u);\n        used = fill(bytes, sizeof bytes);\n"),
-    ("a short read ends the input", "replay.c", "        used += (size_t)n;\n",
-     "        used += (size_t)n;\n        if (used >= 8u)\n            break;\n"),
+    ("each block from the fresh state", "replay.c", "        used = fill(source, bytes, sizeof bytes);\n",
+     "        uart_fresh(&u);\n        used = fill(source, bytes, sizeof bytes);\n"),
+    ("a short read ends the input", "replay.c", "while (used < size && (n", "while (used < size && used < 8u && (n"),
     ("one block only", "replay.c", "answer.outcome == REPLAY_AGREED && used == sizeof bytes);", "false);"),
     ("words with the high byte first", "replay.c",
      "(uint32_t)b[0] | (uint32_t)b[1] << 8 | (uint32_t)b[2] << 16 | (uint32_t)b[3] << 24;",

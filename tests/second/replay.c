@@ -1,37 +1,51 @@
 /*
- * replay: a capture from standard input, 8,192 records at a time, replayed from
- * the fresh state. Writes one line: `agreed`, `differs PLACE SEEN MODEL` or
- * `refused NO PLACE`. Ends with 0 whatever the answer is, with 2 where reading
- * or writing failed.
+ * replay: captures, from files or from standard input, 8,192 records at a time,
+ * each replayed from the fresh state. Writes a line for each: `agreed`, `differs
+ * PLACE SEEN MODEL` or `refused NO PLACE`.
  */
+#include "arguments.h"
 #include "capture.h"
 #include "stream.h"
 
+#include <errno.h>
+#include <fcntl.h>
 #include <stdio.h>
 #include <stdlib.h>
+#include <string.h>
+#include <unistd.h>
 
 #define BLOCK_RECORDS 8192u
 #define RECORD_BYTES 4u
 #define HEADER_BYTES 8u
-#define EXIT_TROUBLE 2
 
-static void stop(const char *what)
-{
-    perror(what);
-    exit(EXIT_TROUBLE);
-}
+static const char help[] =
+    "usage: replay [--help] [FILE ..]\n"
+    "\n"
+    "Replays each capture FILE on the model, standard input where there is none or for -,\n"
+    "and writes a line for each, after its name where there are several:\n"
+    "\n"
+    "agreed                      every read saw what the model answers\n"
+    "differs PLACE SEEN MODEL    the first read that did not, counted from 0\n"
+    "refused NUMBER PLACE        6 no capture, 7 unknown version, 8 bad record\n"
+    "\n"
+    "The exit status is 0 whatever the answers are, or 2 where an argument is unknown, or\n"
+    "reading or writing failed: then standard error says so, and there is no line.\n";
 
-/* Reads until the buffer is full or the input ends; returns the bytes read. */
-static size_t fill(uint8_t *buffer, size_t size)
+/* A capture that is read, and whether a read failed. */
+struct source {
+    int fd;
+    bool failed;
+};
+
+/* Reads until the buffer is full, the input ends or a read fails; returns the bytes read. */
+static size_t fill(struct source *source, uint8_t *buffer, size_t size)
 {
     size_t used = 0;
-    ssize_t n;
+    ssize_t n = 0;
 
-    while (used < size && (n = stream_read(buffer + used, size - used)) != 0) {
-        if (n < 0)
-            stop("replay: reading");
+    while (used < size && (n = stream_read(source->fd, buffer + used, size - used)) > 0)
         used += (size_t)n;
-    }
+    source->failed = n < 0;
     return used;
 }
 
@@ -57,7 +71,7 @@ static uint32_t header_number(const uint8_t *header, size_t bytes)
 }
 
 /* The blocks after the header. One to three bytes left at the end are a bad record. */
-static struct replay_answer replay_blocks(void)
+static struct replay_answer replay_blocks(struct source *source)
 {
     static uint8_t bytes[BLOCK_RECORDS * RECORD_BYTES];
     static uint32_t records[BLOCK_RECORDS];
@@ -70,7 +84,7 @@ static struct replay_answer replay_blocks(void)
     do {
         size_t count;
 
-        used = fill(bytes, sizeof bytes);
+        used = fill(source, bytes, sizeof bytes);
         count = used / RECORD_BYTES;
         for (size_t i = 0; i < count; i++)
             records[i] = word_at(bytes + i * RECORD_BYTES);
@@ -83,15 +97,66 @@ static struct replay_answer replay_blocks(void)
     return answer;
 }
 
-int main(void)
+static struct replay_answer replay_capture(struct source *source)
+{
+    uint8_t header[HEADER_BYTES];
+    uint32_t number = header_number(header, fill(source, header, sizeof header));
+
+    return number == UART_DONE ? replay_blocks(source) : replay_refused(number, 0u);
+}
+
+/* Tells what failed, and answers false. */
+static bool trouble(const char *what)
+{
+    fprintf(stderr, "replay: %s: %s\n", what, strerror(errno));
+    return false;
+}
+
+/* The line of an answer, after the capture's name where there are several. */
+static bool write_answer(struct replay_answer answer, const char *name, bool several)
 {
     char line[REPLAY_LONGEST_LINE];
-    uint8_t header[HEADER_BYTES];
-    uint32_t number = header_number(header, fill(header, sizeof header));
-    struct replay_answer answer;
 
-    answer = number == UART_DONE ? replay_blocks() : replay_refused(number, 0u);
-    if (!stream_write(line, replay_line(answer, line)))
-        stop("replay: writing");
-    return EXIT_SUCCESS;
+    if (several && !(stream_write(name, strlen(name)) && stream_write(": ", 2)))
+        return false;
+    return stream_write(line, replay_line(answer, line));
+}
+
+/* Replays an open capture. False where reading or writing failed. */
+static bool replay_open(int fd, const char *name, bool several)
+{
+    struct source source = { fd, false };
+    struct replay_answer answer = replay_capture(&source);
+
+    if (source.failed)
+        return trouble(name);
+    return write_answer(answer, name, several) || trouble("writing");
+}
+
+/* The same of the capture of a name, `-` for standard input. */
+static bool replay_named(const char *name, bool several)
+{
+    bool good;
+    int fd;
+
+    if (strcmp(name, "-") == 0)
+        return replay_open(STDIN_FILENO, name, several);
+    fd = open(name, O_RDONLY);
+    if (fd < 0)
+        return trouble(name);
+    good = replay_open(fd, name, several);
+    close(fd);
+    return good;
+}
+
+int main(int argc, char **argv)
+{
+    bool good = true;
+
+    arguments_take(argc, argv, true, help);
+    if (argc < 2)
+        good = replay_open(STDIN_FILENO, "standard input", false);
+    for (int i = 1; i < argc; i++)
+        good = replay_named(argv[i], argc > 2) && good;
+    return good ? EXIT_SUCCESS : EXIT_TROUBLE;
 }

@@ -1,4 +1,4 @@
-/* Standard input and output; a call that a signal broke off is made again. */
+/* Reading and writing; a call that a signal broke off is made again. */
 #define _POSIX_C_SOURCE 200809L
 
 #include "stream.h"
@@ -6,12 +6,12 @@
 #include <errno.h>
 #include <unistd.h>
 
-ssize_t stream_read(void *buffer, size_t size)
+ssize_t stream_read(int fd, void *buffer, size_t size)
 {
     ssize_t n;
 
     do
-        n = read(STDIN_FILENO, buffer, size);
+        n = read(fd, buffer, size);
     while (n < 0 && errno == EINTR);
     return n;
 }

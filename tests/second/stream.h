@@ -1,4 +1,4 @@
-/* Standard input and output, in whole pieces, whatever a read or write takes at a time. */
+/* Input, and standard output in whole pieces, whatever a write takes at a time. */
 #ifndef STREAM_H
 #define STREAM_H
 
@@ -7,7 +7,7 @@
 #include <sys/types.h>
 
 /* What is there, up to size bytes; 0 at the end of the input, -1 where reading failed. */
-ssize_t stream_read(void *buffer, size_t size);
+ssize_t stream_read(int fd, void *buffer, size_t size);
 
 /* False where writing failed. */
 bool stream_write(const char *bytes, size_t length);

@@ -6,6 +6,7 @@ usage: capture.py
 """
 
 import os
+import pty
 import struct
 import sys
 
@@ -137,6 +138,20 @@ def arguments_and_streams():
     return said.count(False), len(said)
 
 
+def terminals():
+    """On a terminal it is told what is awaited; here the terminal ends at once."""
+    wrong = 0
+    for arguments, said in (([], "a listing is read from the terminal"), (["--list"], "a capture is awaited")):
+        near, far = pty.openpty()
+        os.write(near, b"\4")
+        if not run(None, *arguments, stdin=far)[1].startswith("capture: " + said):
+            print("capture %s: no hint on a terminal" % " ".join(arguments))
+            wrong += 1
+        os.close(near)
+        os.close(far)
+    return wrong, 2
+
+
 def memory():
     """A file larger than the memory that there is, there and back."""
     data = utr.header() + struct.pack("<3I", 65535, 0x10000560, 0x60000000) * (LONG // 3)
@@ -150,7 +165,7 @@ def memory():
 
 def main():
     wrong = count = 0
-    for part in (round_trips, table, arguments_and_streams, memory):
+    for part in (round_trips, table, arguments_and_streams, terminals, memory):
         bad, cases = part()
         wrong += bad
         count += cases

@@ -3,6 +3,7 @@ import array
 import ctypes
 import io
 import itertools
+import multiprocessing
 import os
 import signal
 import struct
@@ -37,18 +38,42 @@ def outcome(replay):
 class Records(unittest.TestCase):
     def test_bytes_are_no_records(self):
         capture = file_of(AGREES)
+        read = io.BytesIO(capture)
+        read.read()
         for given in (
             capture,
+            b"",
             bytearray(capture),
             memoryview(capture),
             array.array("B", capture),
+            array.array("H", capture),
+            memoryview(capture).cast("H"),
             [capture],
             io.BytesIO(capture),
+            io.BytesIO(),
+            io.StringIO(),
+            read,
+            "",
+            "capture.utr",
+            Path("capture.utr"),
         ):
-            with self.subTest(type(given)):
+            with self.subTest(given):
                 u = Uart()
                 self.assertRaisesRegex(TypeError, "replay_file", u.replay, 1, given)
                 self.assertEqual(u, Uart())
+
+    def test_a_file_that_was_read(self):
+        with tempfile.TemporaryFile() as file:
+            self.assertRaisesRegex(TypeError, "replay_file", Uart().replay, 1, file)
+
+    def test_taken_a_piece_at_a_time(self):
+        """What stands behind the place within its piece is taken too; a bad number there is told."""
+        left = iter(DIFFERS + [0] * 600)
+        self.assertEqual(Uart().replay(1, left), (1, 0, 0x5A))
+        self.assertEqual(len(list(left)), 602 - uart._RECORDS)
+        u = Uart()
+        self.assertRaises(ValueError, u.replay, 1, DIFFERS + [-1])
+        self.assertEqual(u, Uart())
 
     def test_buffers_and_iterables(self):
         many = DIFFERS[:1] + [0] * 5000 + DIFFERS[1:]
@@ -113,6 +138,17 @@ class Odd(io.RawIOBase):
         return piece
 
 
+class Whole:
+    """A file that gives all that it has, whatever is asked for."""
+
+    def __init__(self, content):
+        self.left = content
+
+    def read(self, count=-1):
+        content, self.left = self.left, b""
+        return content
+
+
 class Files(unittest.TestCase):
     def test_stored_captures(self):
         expected = (STORED / "stdout").read_text().splitlines()
@@ -141,10 +177,19 @@ class Files(unittest.TestCase):
                 self.assertEqual(outcome(lambda: u.replay_file(io.BytesIO(capture))), line)
 
     def test_from_the_fresh_state(self):
+        for capture in (HEADER, HEADER[:7], b"UTX" + HEADER[3:], file_of([], 2), file_of([1 << 31])):
+            with self.subTest(capture):
+                u = Uart()
+                u.write(7, 0x11)
+                outcome(lambda: u.replay_file(io.BytesIO(capture)))
+                self.assertEqual(u, Uart())
+
+    def test_more_than_asked_for(self):
         u = Uart()
         u.write(7, 0x11)
-        u.replay_file(io.BytesIO(HEADER))
-        self.assertEqual(u, Uart())
+        before = u.copy()
+        self.assertRaisesRegex(ValueError, r"read\(8\) gave 16 bytes", u.replay_file, Whole(file_of(DIFFERS)))
+        self.assertEqual(u, before)
 
     def test_paths_and_what_is_no_file(self):
         with tempfile.TemporaryDirectory() as folder:
@@ -167,6 +212,21 @@ class Files(unittest.TestCase):
         told.clear()
         u.replay_file(Odd(capture, 4096), lambda *now: told.append(now))
         self.assertEqual(told[-1], (50000, len(capture), None))
+
+    def test_progress_to_the_place(self):
+        """Where a file stops, the last that is told are the records before the place."""
+        block = uart._BLOCK_BYTES // 4
+        for place in (0, 5, block - 1, block, block + 700):
+            for end in (0x100007FF, 0xFFFFFFFF):
+                capture = file_of([0x2000075A] * place + [end] + [0] * 1000)
+                told = []
+                outcome(lambda: Uart().replay_file(io.BytesIO(capture), lambda *now: told.append(now)))
+                self.assertEqual((told[-1][0], told[-1][2]), (place, len(capture)))
+                self.assertEqual(told, sorted(told))
+        for capture in (HEADER[:5], b"UTX" + HEADER[3:], file_of(AGREES, 2)):
+            told = []
+            outcome(lambda: Uart().replay_file(io.BytesIO(capture), lambda *now: told.append(now)))
+            self.assertEqual([(now[0], now[2]) for now in told], [(0, len(capture))])
 
     def test_a_callback_that_raises(self):
         def stop(records, read, total):
@@ -193,50 +253,64 @@ class Files(unittest.TestCase):
         self.assertEqual(run.returncode, 0)
 
 
+def fast():
+    """A UART with the smallest divisor, which has the most work in a tick."""
+    u = Uart()
+    u.write(3, 0x80)
+    u.write(0, 1)
+    u.write(3, 0x03)
+    return u
+
+
+def held():
+    """The same with a byte that flow control holds back, so that a run ends with its ticks."""
+    u = fast()
+    u.write(4, 0x20)
+    u.write(2, 0x01)
+    u.write(0, 65)
+    return u
+
+
+SLOW = [0x20000380, 0x20000001, 0x20000303] + [0x0000FFFF] * 1_000_000
+
+# A UART, and work on it that takes far longer than the guard.
+LONG_WORK = {
+    "ticks": (fast, lambda u: u.tick(0xFFFFFFFF)),
+    "run": (held, lambda u: u.run(0xFFFFFFFF)),
+    "records": (fast, lambda u: u.replay(1, itertools.repeat(0x0000FFFF))),
+    "file": (fast, lambda u: u.replay_file(io.BytesIO(file_of(SLOW)))),
+}
+
+
+def interrupt(name):
+    """Interrupts the work; ends with 0 where it stops and leaves the state as it was."""
+    make, work = LONG_WORK[name]
+    u = make()
+    before = u.copy()
+    signal.signal(signal.SIGINT, signal.default_int_handler)
+    threading.Timer(0.2, lambda: os.kill(os.getpid(), signal.SIGINT)).start()
+    try:
+        work(u)
+    except KeyboardInterrupt:
+        sys.exit(0 if u == before else "the state has moved")
+    sys.exit("not interrupted")
+
+
 class Interrupts(unittest.TestCase):
     """Ctrl-C stops long work after one of its pieces, and the state is as it was."""
 
-    def interrupted(self, u, call):
-        before = u.copy()
-        timer = threading.Timer(0.2, lambda: os.kill(os.getpid(), signal.SIGINT))
-        timer.start()
-        try:
-            self.assertRaises(KeyboardInterrupt, call)
-        finally:
-            timer.join()
-        self.assertEqual(u, before)
+    GUARD = 10  # seconds; a piece has tenths of one, all of the work much more
 
-    def setUp(self):
-        self.old = signal.signal(signal.SIGINT, signal.default_int_handler)
-        self.addCleanup(signal.signal, signal.SIGINT, self.old)
-
-    def fast(self):
-        """With the smallest divisor, which has the most work in a tick."""
-        u = Uart()
-        u.write(3, 0x80)
-        u.write(0, 1)
-        u.write(3, 0x03)
-        return u
-
-    def test_ticks(self):
-        u = self.fast()
-        self.interrupted(u, lambda: u.tick(0xFFFFFFFF))
-
-    def test_run(self):
-        u = self.fast()
-        u.write(4, 0x20)
-        u.write(2, 0x01)
-        u.write(0, 65)
-        self.interrupted(u, lambda: u.run(0xFFFFFFFF))
-
-    def test_records(self):
-        u = self.fast()
-        self.interrupted(u, lambda: u.replay(1, itertools.repeat(0x0000FFFF)))
-
-    def test_file(self):
-        u = self.fast()
-        slow = [0x20000380, 0x20000001, 0x20000303] + [0x0000FFFF] * 100_000
-        self.interrupted(u, lambda: u.replay_file(io.BytesIO(file_of(slow))))
+    def test_long_work(self):
+        for name in LONG_WORK:
+            with self.subTest(name):
+                child = multiprocessing.Process(target=interrupt, args=(name,))
+                child.start()
+                child.join(self.GUARD)
+                if child.exitcode is None:
+                    child.kill()
+                    child.join()
+                self.assertEqual(child.exitcode, 0)
 
 
 if __name__ == "__main__":

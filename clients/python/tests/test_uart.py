@@ -62,6 +62,17 @@ class Values(unittest.TestCase):
         self.assertNotEqual(a.state, 5)
         self.assertNotEqual(a, a.state)
 
+    def test_queues_are_compared_by_contents(self):
+        u, v = busy(), busy()
+        queues = [(each.state.tx.bytes, each.state.rx.entries) for each in (u, v)]
+        for ours, theirs, other in zip(*queues, (7, (7, 0, 0, 0))):
+            self.assertEqual(ours, theirs)
+            theirs[63] = other
+            self.assertNotEqual(ours, theirs)
+            self.assertNotEqual(ours, list(ours))
+            self.assertRaises(TypeError, hash, ours)
+        self.assertEqual(u.state.tx.bytes, u.state.tx.bytes)
+
     def test_copies_are_apart(self):
         u = busy()
         pickled = pickle.loads(pickle.dumps(u))
@@ -88,9 +99,19 @@ class Values(unittest.TestCase):
             (lambda: setattr(u.state.registers, "ier", 1.0), TypeError),
             (lambda: setattr(u.state.registers, "lsr", 1), AttributeError),
             (lambda: setattr(u.state, "registers", 1), TypeError),
+            (lambda: setattr(u.state, "registers", (300,)), ValueError),
+            (lambda: setattr(u.state.tx.bytes, "foo", 1), AttributeError),
+            (lambda: setattr(u.state.rx.entries, "foo", 1), AttributeError),
+            (lambda: setattr(u.state.rx.entries[0], "foo", 1), AttributeError),
             (lambda: u.state.tx.bytes.__setitem__(0, 256), ValueError),
             (lambda: u.state.tx.bytes.__setitem__(slice(0, 2), [1, 256]), ValueError),
             (lambda: setattr(u.state.tx, "bytes", [300]), ValueError),
+            (lambda: setattr(u.state.tx, "bytes", (300,)), ValueError),
+            (lambda: setattr(u.state.rx, "entries", [(300,)]), ValueError),
+            (lambda: u.state.rx.entries.__setitem__(0, (300,)), ValueError),
+            (lambda: u.state.rx.entries.__setitem__(slice(0, 1), [(300,)]), ValueError),
+            (lambda: u.state.rx.entries.__setitem__(0, 5), TypeError),
+            (lambda: State((300,)), ValueError),
             (lambda: setattr(u.state.rx.entries[0], "pe", 256), ValueError),
             (lambda: Entry(byte=256), ValueError),
             (lambda: setattr(u, "registers", 1), AttributeError),

@@ -9,8 +9,9 @@
     1
 
 A call that is refused raises Refused, whose number is that of the table in document 01; the state is
-then as it was, or, where a replay meets a bad record, that before it. Ctrl-C stops a long tick, run or
-replay within a second; the state is then as it was before the call.
+then as it was, or, where a replay meets a bad record, that before it. replay_file starts from the fresh
+state, which is then also that after a refused header. Ctrl-C stops a long tick, run or replay within a
+second; the state is then as it was before the call.
 """
 from .structs import (
     PLACES,

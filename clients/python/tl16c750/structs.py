@@ -74,10 +74,10 @@ class Struct(ctypes.Structure):
         kind = self._kinds.get(name)
         if kind is None:
             raise AttributeError(f"{type(self).__name__} has no field {name!r}")
-        if issubclass(kind, ctypes.Array) and not isinstance(value, kind):
-            value = kind(*value)
-        elif not issubclass(kind, (ctypes.Array, ctypes.Structure)):
+        if not issubclass(kind, (ctypes.Array, ctypes.Structure)):
             value = fits(value, 8 * ctypes.sizeof(kind), f"{type(self).__name__}.{name}")
+        elif not isinstance(value, kind) and (issubclass(kind, ctypes.Array) or isinstance(value, tuple)):
+            value = kind(*value)
         super().__setattr__(name, value)
 
     def _image(self) -> bytes:
@@ -118,26 +118,44 @@ def _struct(kind: type[S]) -> type[S]:
     return kind
 
 
-def _used(places: Iterable[Any], empty: Any) -> list[Any]:
-    """The places up to the last that is not empty."""
-    used = list(places)
-    while used and used[-1] == empty:
-        used.pop()
-    return used
+class Places:
+    """The 64 places of a queue; compared by what stands in them, printed up to the last that is not
+    empty."""
 
-
-class Bytes(ctypes.c_uint8 * PLACES):  # type: ignore[misc]
-    """The 64 places of the transmit queue; printed without the zeros at the end."""
+    def _fitted(self, value: Any) -> Any:
+        """The value, where a place can have it."""
+        raise NotImplementedError
 
     def __setitem__(self, index: Any, value: Any) -> None:
         if isinstance(index, slice):
-            value = [fits(byte, 8, "a queued byte") for byte in value]
+            value = [self._fitted(item) for item in value]
         else:
-            value = fits(value, 8, "a queued byte")
-        super().__setitem__(index, value)
+            value = self._fitted(value)
+        super().__setitem__(index, value)  # type: ignore[misc]
+
+    def __setattr__(self, name: str, value: Any) -> None:
+        raise AttributeError(f"{type(self).__name__} has places and no field {name!r}")
+
+    def __eq__(self, other: object) -> bool:
+        if type(other) is not type(self):
+            return NotImplemented
+        return bytes(self) == bytes(other)  # type: ignore[call-overload]
+
+    __hash__ = None  # type: ignore[assignment]
 
     def __repr__(self) -> str:
-        return repr(_used(self, 0))
+        used = list(self)  # type: ignore[call-overload]
+        empty = type(self)()[0]  # type: ignore[index]
+        while used and used[-1] == empty:
+            used.pop()
+        return repr(used)
+
+
+class Bytes(Places, ctypes.c_uint8 * PLACES):  # type: ignore[misc]
+    """The places of the transmit queue."""
+
+    def _fitted(self, value: Any) -> int:
+        return fits(value, 8, "a queued byte")
 
 
 @_struct
@@ -203,11 +221,11 @@ class Entry(Struct):
     bi: U8
 
 
-class Entries(Entry * PLACES):  # type: ignore[misc, valid-type, operator]
-    """The 64 places of the receive queue; printed without the blank ones at the end."""
+class Entries(Places, Entry * PLACES):  # type: ignore[misc, valid-type, operator]
+    """The places of the receive queue; each takes an Entry, or a tuple of its fields."""
 
-    def __repr__(self) -> str:
-        return repr(_used(self, Entry()))
+    def _fitted(self, value: Any) -> Any:
+        return Entry(*value) if isinstance(value, tuple) else value
 
 
 @_struct
@@ -378,7 +396,7 @@ class Replayed(Struct):
 @_struct
 class Progress(Struct):
     """Where a file stands: its version, what stopped it (0 nothing so far, 1 a read that differs, 2 a
-    refusal) and how, the records done, the state."""
+    refusal) and how, the records given so far, the state."""
 
     version: U32
     stopped: U8

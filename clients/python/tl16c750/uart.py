@@ -80,19 +80,29 @@ def _done(answer: Any) -> Any:
     return answer
 
 
+def _agreed(values: Values) -> bool:
+    """Whether a replay reached the end, and every read saw the model's byte."""
+    return not values.number and values.seen == values.model
+
+
 def _difference(values: Values, before: int = 0) -> Optional[Difference]:
     """How a replay ended, its place counted from so many records earlier."""
     if values.number:
         raise Refused(values.number, before + values.place)
-    if values.seen == values.model:
+    if _agreed(values):
         return None
     return Difference(before + values.place, values.seen, values.model)
+
+
+def _no_records(what: str) -> TypeError:
+    """The error where a capture's file, or something of it, is given for records."""
+    return TypeError(f"records are numbers of 32 bits, not {what}: replay_file takes a capture's file")
 
 
 def _word(record: Any) -> int:
     """A record that is given as a number, or the reason why it is none."""
     if isinstance(record, (bytes, bytearray, memoryview)):
-        raise TypeError("records are numbers, not bytes: replay_file takes a capture's file")
+        raise _no_records("bytes")
     return fits(record, 32, "a record")
 
 
@@ -116,12 +126,14 @@ def _words(view: memoryview) -> Iterator[Any]:
 
 def _pieces(records: Any) -> Iterator[Any]:
     """Records, a piece at a time: words of a buffer as they stand, anything else as numbers."""
+    if isinstance(records, (str, os.PathLike)) or hasattr(records, "read"):
+        raise _no_records(f"a {type(records).__name__}")
     try:
         view = memoryview(records)
     except TypeError:
         return _numbers(records)
-    if view.itemsize == 1:
-        raise TypeError("bytes are no records: replay_file takes a capture's file")
+    if view.itemsize < 4:
+        raise _no_records(f"{view.itemsize} bytes each")
     if view.ndim != 1:
         raise TypeError(f"records stand in one dimension, not in {view.ndim}")
     if view.itemsize == 4 and view.format.lstrip("@=<") in ("I", "L"):
@@ -138,6 +150,8 @@ def _read_full(file: IO[bytes], count: int) -> bytes:
             raise BlockingIOError("the capture has no bytes ready: replay_file needs a blocking file")
         if not isinstance(part, bytes):
             raise TypeError("a capture's file is opened for bytes: open(path, 'rb')")
+        if len(part) > count:
+            raise ValueError(f"the capture's read({count}) gave {len(part)} bytes")
         if not part:
             break
         parts.append(part)
@@ -168,12 +182,15 @@ def _replay_stream(file: IO[bytes], progress: Optional[Told]) -> Any:
         for start in range(0, len(block), _PIECE_BYTES):
             piece = block[start : start + _PIECE_BYTES]
             stands = library.uart_replay_more(stands, piece, len(piece))
-        if progress:
-            progress(stands.done, read, total)
         if len(block) < _BLOCK_BYTES:
             left = block[len(block) - len(block) % 4 :]
             break
-    return library.uart_replay_end(stands, left, len(left))
+        if progress and not stands.stopped:
+            progress(stands.done, read, total)
+    replayed = library.uart_replay_end(stands, left, len(left))
+    if progress:
+        progress(stands.done if _agreed(replayed.values) else replayed.values.place, read, total)
+    return replayed
 
 
 class Uart:
@@ -285,8 +302,9 @@ class Uart:
         or that before the read.
 
         The records are numbers of 32 bits: any iterable of them, or a buffer of 32-bit words, as
-        array('I') or numpy's uint32. Each is looked at when it is reached. A capture's file with its
-        header is for replay_file."""
+        array('I') or numpy's uint32. An iterable is asked for 512 at a time, also for those behind
+        the place where it stops; one among these that is no such number is an error, and the state
+        is then as it was. A capture's file with its header is for replay_file."""
         version = fits(version, 32, "a version")
         state = self._state
         before = 0
@@ -294,7 +312,7 @@ class Uart:
             replayed = library.uart_replay(state, version, piece, len(piece))
             state = replayed.state
             values = replayed.values
-            if values.number or values.seen != values.model:
+            if not _agreed(values):
                 break
             before += len(piece)
         self._state = state
@@ -305,9 +323,11 @@ class Uart:
     ) -> Optional[Difference]:
         """A replay of a capture's file, a path or a file open for bytes, from the fresh state, whatever
         this one is: None where all reads agree, else the Difference. The state is then the end state,
-        or that before the read or the bad record.
+        or that before the read or the bad record, the fresh one where the header is refused. It is
+        as it was where the file cannot be read.
 
-        The file is read a block at a time; `progress`, where given, is told after each."""
+        The file is read a block at a time; `progress`, where given, is told after each, and at the
+        end, where the records done are those before the place at which it stopped."""
         if isinstance(file, (str, os.PathLike)):
             with open(file, "rb") as opened:
                 replayed = _replay_stream(opened, progress)

@@ -47,7 +47,7 @@ impl File {
         (Outcome::of(replayed.values), uart)
     }
 
-    /// The records done.
+    /// The records given so far, also those behind the place where it stopped.
     pub fn records(&self) -> usize {
         self.progress.done
     }
@@ -94,15 +94,17 @@ mod read {
 
     impl Uart {
         /// A replay of a capture's file from the fresh state, whatever this one is. The state is then
-        /// the one in which it ended; where reading fails, it is as it was.
+        /// the one in which it ended, the fresh one where the header is refused; where reading fails,
+        /// it is as it was.
         ///
         /// The file is read a block of 16 KiB at a time.
         pub fn replay_file(&mut self, file: impl Read) -> Result<Outcome> {
             self.replay_file_telling(file, None, |_| {})
         }
 
-        /// The same, and `progress` is told after each block; `of` is how many bytes the file has,
-        /// where the caller knows it.
+        /// The same, and `progress` is told after each block, and at the end, where the records done
+        /// are those before the place at which it stopped; `of` is how many bytes the file has, where
+        /// the caller knows it.
         pub fn replay_file_telling(
             &mut self,
             mut file: impl Read,
@@ -113,19 +115,22 @@ mod read {
             let header = fill(&mut file, &mut block[..HEADER])?;
             let mut replay = File::begin(&block[..header]);
             let mut bytes = header as u64;
-            let mut used = block.len();
             let mut left = &block[..0];
-            while !replay.stopped() && used == block.len() {
-                used = fill(&mut file, &mut block)?;
+            while !replay.stopped() {
+                let used = fill(&mut file, &mut block)?;
                 left = replay.more(&block[..used]);
                 bytes += used as u64;
-                progress(Told {
-                    records: replay.records(),
-                    bytes,
-                    of,
-                });
+                if used < block.len() {
+                    break;
+                }
+                if !replay.stopped() {
+                    let records = replay.records();
+                    progress(Told { records, bytes, of });
+                }
             }
             let (outcome, uart) = replay.end(left);
+            let records = outcome.place().unwrap_or(replay.records());
+            progress(Told { records, bytes, of });
             *self = uart;
             Ok(outcome)
         }

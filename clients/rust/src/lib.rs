@@ -8,8 +8,8 @@
 //! # Ok::<(), tl16c750::Refusal>(())
 //! ```
 //!
-//! The crate is `no_std`; its feature `std`, on unless it is turned off, adds
-//! [`Uart::replay_file`] over [`std::io::Read`]. Without it a file is replayed by [`File`].
+//! The crate is `no_std`; its feature `std`, on unless it is turned off, adds `Uart::replay_file` over
+//! `std::io::Read`. Without it a file is replayed by [`File`].
 
 #![no_std]
 #![deny(missing_docs)]
@@ -121,7 +121,7 @@ pub enum Outcome {
         model: u8,
     },
     /// The record at the place is bad, and the state is that before it; or another refusal, with
-    /// place 0 and the state as it was.
+    /// place 0 and the state as it was, which of a file is the fresh one.
     Refused {
         /// Why.
         refusal: Refusal,
@@ -142,6 +142,14 @@ impl Outcome {
             Err(refusal) => Outcome::Refused { refusal, place },
             Ok(()) if seen != model => Outcome::Differs { place, seen, model },
             Ok(()) => Outcome::Agreed,
+        }
+    }
+
+    /// The place at which it stopped; none where it agreed.
+    pub fn place(&self) -> Option<usize> {
+        match *self {
+            Outcome::Agreed => None,
+            Outcome::Differs { place, .. } | Outcome::Refused { place, .. } => Some(place),
         }
     }
 }

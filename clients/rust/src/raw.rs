@@ -263,7 +263,7 @@ pub struct Progress {
     pub version: u32,
     /// What stopped it: 0 nothing so far, 1 a read that differs, 2 a refusal.
     pub stopped: u8,
-    /// The records done.
+    /// The records given so far.
     pub done: usize,
     /// How it stopped.
     pub values: Values,

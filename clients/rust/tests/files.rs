@@ -83,6 +83,25 @@ fn progress_is_told_to_the_end() -> Result<()> {
 }
 
 #[test]
+fn progress_ends_at_the_place() -> Result<()> {
+    for place in [0, 5, 4095, 4096, 9000] {
+        for end in [0x1000_07FF_u32, 0xFFFF_FFFF] {
+            let mut bytes = b"UTR\0\x01\0\0\0".to_vec();
+            bytes.resize(8 + 4 * place, 0);
+            bytes.extend(end.to_le_bytes());
+            bytes.resize(bytes.len() + 4 * 1000, 0);
+            let mut told = Vec::new();
+            let outcome =
+                Uart::fresh().replay_file_telling(&bytes[..], None, |now| told.push(now))?;
+            assert_eq!(outcome.place(), Some(place));
+            assert_eq!(told.last().map(|now| now.records), Some(place));
+            assert!(told.windows(2).all(|two| two[0].records <= two[1].records));
+        }
+    }
+    Ok(())
+}
+
+#[test]
 fn refusals_print_words() {
     let words = "unknown version of a capture (number 7)";
     assert_eq!(Refusal::UNKNOWN_VERSION.to_string(), words);
