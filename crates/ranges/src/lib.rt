@@ -18,7 +18,7 @@ use sheet::bits;
 use sheet::limits;
 ghost use mathlib.Core.Path.{_≡_};
 ghost use mathlib.Core.Bool.{cond, _&&_};
-ghost use Prim.Native.Nat.{_-_, _^_, _≤_, min};
+ghost use Prim.Native.Nat.{_^_, _≤_, min};
 ghost use lib.Dec.{leb, ltb, eqb};
 ghost use Rattle.flag.specs.Flag.{every, implies as «implies-of»};
 ghost use Rattle.device.specs.Ranges.{registerRanges, settingRanges, transmitRanges, receiveRanges, latchRanges, queueLatchRanges, flowLatchRanges, characterRanges, outsideRanges, wellFormed};
