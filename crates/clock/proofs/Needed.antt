@@ -1,5 +1,5 @@
 -- What the parts of a pulse need: a well-formed state has it, and it stays from part to part.
-use Prim.Native.Nat.{ℕ, _-_, _≤_, min}
+use Prim.Native.Nat.{ℕ, _≤_, min}
 use native.Mathlib.Decide.{ℕ-discrete}
 use native.Mathlib.Omega.{arith}
 use mathlib.Core.Path.{_≡_, refl}
@@ -8,7 +8,6 @@ use lib.Dec.{eqb}
 use lib.Pow.{pow-pos}
 use Rattle.flag.proofs.Laws.{by-test, cond-same}
 use Rattle.frame.specs.Format.{dataBits}
-use Rattle.device.specs.declared.Frame.{Frame}
 use Rattle.device.specs.declared.Receiver.{Receiver}
 use Rattle.device.specs.declared.Received.{Received}
 use Rattle.device.specs.declared.State.{State}

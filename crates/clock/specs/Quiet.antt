@@ -7,6 +7,7 @@ use Rattle.device.specs.declared.Frame.{Frame}
 use Rattle.device.specs.declared.Receiver.{Receiver}
 use Rattle.device.specs.declared.Latches.{Latches}
 use Rattle.device.specs.declared.State.{State}
+use Rattle.device.specs.State.{idlePhase, characterPhase}
 use Rattle.device.specs.Modem.{loopback}
 use Rattle.device.specs.Transmitter.{line, ready, shiftedOut}
 use Rattle.device.specs.Receiver.{atPosition, receiverPulse}
@@ -46,13 +47,13 @@ assembled s k x v l =
 -- line that is high because nothing is sent, or because SIN is
 unfoldable pub steady : Bool → ℕ → ℕ → Receiver → Bool
 steady looped left sin v =
-    cond (eqb (v .phase) 2)
+    cond (eqb (v .phase) characterPhase)
     (not (eqb ((v .position + 1) % 16) 8))
-    (cond (eqb (v .phase) 0) (cond looped (eqb left 0) (eqb sin 1)) false)
+    (cond (eqb (v .phase) idlePhase) (cond looped (eqb left 0) (eqb sin 1)) false)
 
 -- the receiver after it
 unfoldable pub stepped : Receiver → Receiver
-stepped v = cond (eqb (v .phase) 2) (atPosition (v .position + 1) v) v
+stepped v = cond (eqb (v .phase) characterPhase) (atPosition (v .position + 1) v) v
 
 -- the pulse is not quiet
 abbrev pub busy : Frame → Receiver → Latches → QuietPulse

@@ -85,5 +85,5 @@ pub record Foretold (s : State) (T t : ℕ) : Type 0 where
 -- run stops as soon as LSR6 (TEMT) would be 1, and not before
 pub record StopsInTime (s : State) (n used : ℕ) : Type 0 where
   pub within : used ≤ n
-  pub empty : used < n → temt (ticksOf used s) ≡ true
+  pub temt-then : used < n → temt (ticksOf used s) ≡ true
   pub not-before : (t : ℕ) → t < used → temt (ticksOf t s) ≡ false

@@ -1,5 +1,6 @@
 -- The manual. The two readers read this folder against the sheet, in this order: what the state is and what the
--- settings mean, the line, the ranges of the state, the registers, the pins, and the calls. A file uses earlier ones alone.
+-- settings mean, the line, the ranges of the state, the registers, the pins, and the calls.
+-- A file uses earlier ones alone.
 pub mod State
 pub mod Fifo
 pub mod Modem

@@ -144,12 +144,12 @@ stops-in-time s w n = go (eqb (forecastNumber s) 0) refl
         let claim = foretold s w (eqb-true (forecastNumber s) 0 p) in
         record {
           within = omega arith;
-          empty = λ h. claim (min n (ticksToCome s)) .empties (omega arith);
+          temt-then = λ h. claim (min n (ticksToCome s)) .empties (omega arith);
           not-before = λ t h. bool-false (temt (ticksOf t s)) (λ e. let l = claim t .not-before e in absurd (omega arith));
         }
     go false p =
         record {
           within = omega arith;
-          empty = λ h. absurd (omega arith);
+          temt-then = λ h. absurd (omega arith);
           not-before = λ t h. bool-false (temt (ticksOf t s)) (never-empty s w (eqb-false (forecastNumber s) 0 p) t);
         }

@@ -10,7 +10,7 @@ use native.Mathlib.Decide.{decLe}
 use native.Mathlib.Omega.{arith}
 use Rattle.text.specs.Text.{text, before}
 use Rattle.command.specs.declared.Command.{Command}
-use Rattle.command.specs.Command.{longestLine, commandOf, operandsOf}
+use Rattle.command.specs.Command.{longestLine, operandsOf}
 use Rattle.command.proofs.Longest.{long-line}
 use Rattle.current.specs.Commands.{saidOf, nextOf, keptOf}
 use Rattle.session.specs.Session.{Standing, standing, lineSaid, lineNext}

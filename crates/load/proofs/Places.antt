@@ -4,16 +4,14 @@ use borrow.Author.Tests.{le-leb, lt-leb}
 use Rattle.flag.specs.Flag.{allOf}
 use Prim.Native.Nat.{ℕ, zero, suc, _+_, _-_, _*_, _%_, _≤_, _<_}
 use mathlib.Core.Path.{_≡_, refl, sym, ap, _∙_}
-use mathlib.Core.List.{List, [], _∷_, _++_, map, append-assoc, append-nil}
+use mathlib.Core.List.{List, [], _∷_, _++_, map, append-nil}
 use lib.ListN.{drop-of-length-le, length, getD, take, drop, set, replicate, List·getD-map}
 use lib.Seq.{take-suc, take-all, set-at, append-snoc, length-take-le, drop-drop}
 use native.Mathlib.Numerals.{add-one}
 use native.Mathlib.Omega.{arith}
 use Rattle.queue.specs.declared.Entry.{Entry}
-use Rattle.text.specs.Text.{Appended}
-use Rattle.text.proofs.Texts.{drop-at, appended-then}
-use Rattle.device.specs.declared.State.{State}
-use Rattle.numbers.specs.Numbers.{stateCount, isByte, settingsNumbers, frameNumbers, receiverNumbers, numbersOf, entryNumbers, entriesNumbers, low, entryOf, entriesOf}
+use Rattle.text.proofs.Texts.{drop-at}
+use Rattle.numbers.specs.Numbers.{isByte, low, entryOf, entriesOf}
 
 -- Testing: the test of the numbers from place i on gives b.
 pub record Testing (ns : List ℕ) (b : Bool) (i : ℕ) : Type 0 where

@@ -1,19 +1,16 @@
 -- The loops over the places of a state: entries copied into a buffer.
-use mathlib.Core.Bool.{Bool, true, false, _&&_}
-use borrow.Author.Tests.{le-leb, lt-leb}
-use Rattle.flag.specs.Flag.{allOf}
-use Prim.Native.Nat.{ℕ, zero, suc, _+_, _-_, _*_, _%_, _≤_, _<_}
+use Prim.Native.Nat.{ℕ, _+_, _*_, _≤_, _<_}
 use mathlib.Core.Path.{_≡_, refl, sym, ap, _∙_}
-use mathlib.Core.List.{List, [], _∷_, _++_, map, append-assoc, append-nil}
-use lib.ListN.{drop-of-length-le, length, getD, take, drop, set, replicate, List·getD-map}
-use lib.Seq.{take-suc, take-all, set-at, append-snoc, length-take-le, drop-drop}
+use mathlib.Core.List.{List, [], _∷_, _++_, append-assoc, append-nil}
+use lib.ListN.{length, getD, take}
+use lib.Seq.{take-suc, take-all}
 use native.Mathlib.Numerals.{add-one}
 use native.Mathlib.Omega.{arith}
 use Rattle.queue.specs.declared.Entry.{Entry}
 use Rattle.text.specs.Text.{Appended}
-use Rattle.text.proofs.Texts.{drop-at, appended-then}
+use Rattle.text.proofs.Texts.{appended-then}
 use Rattle.device.specs.declared.State.{State}
-use Rattle.numbers.specs.Numbers.{stateCount, isByte, settingsNumbers, frameNumbers, receiverNumbers, numbersOf, entryNumbers, entriesNumbers, low, entryOf, entriesOf}
+use Rattle.numbers.specs.Numbers.{stateCount, settingsNumbers, frameNumbers, receiverNumbers, numbersOf, entryNumbers, entriesNumbers}
 
 -- the numbers of entries, one after another
 entries-append : (es fs : List Entry) → entriesNumbers (es ++ fs) ≡ entriesNumbers es ++ entriesNumbers fs

@@ -12,7 +12,7 @@ use device::State;
 use queue::Entry;
 use sheet::limits;
 ghost use mathlib.Core.Path.{_≡_};
-ghost use Prim.Native.Nat.{_+_, _*_, _%_, _≤_};
+ghost use Prim.Native.Nat.{_+_, _*_, _≤_};
 ghost use lib.ListN.{length};
 ghost use Rattle.text.specs.Text.{Appended};
 ghost use Rattle.numbers.specs.Numbers.{stateCount, settingsNumbers, frameNumbers, entryNumbers, entriesNumbers, receiverNumbers, numbersOf};

@@ -15,11 +15,12 @@ use Rattle.device.specs.Lcr.{divisorAccess}
 use Rattle.device.specs.Thr.{thrWrite}
 use Rattle.device.specs.Msr.{withLevels}
 use Rattle.device.specs.Calls.{done, readRegister, writeRegister, resetOf, readOf, writeOf, sinOf, modemOf, ticksOf}
-use Rattle.invariant.specs.Touch.{byNumbers, byTransmit, merged, Touches, reachesQueue}
+use Rattle.invariant.specs.Touch.{reachesQueue}
 use Rattle.invariant.proofs.Settled.{Kept}
-use Rattle.invariant.proofs.Touched.{thr-touches}
+use Rattle.invariant.proofs.Touched.{byNumbers, byTransmit, merged, Touches, thr-touches}
 use Rattle.invariant.proofs.Steps.{reset-kept, read-kept, write-kept, sin-kept, modem-kept, ticks-kept}
-use Rattle.recorded.specs.Record.{Stepped, stepOf, Way}
+use Rattle.recorded.specs.Record.{Stepped, stepOf}
+use Rattle.recorded.specs.Way.{Way}
 use Rattle.step.proofs.Laws.{settled-thr, numbers-settled}
 
 -- No field of a record is out of its call's range.

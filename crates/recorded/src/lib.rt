@@ -12,7 +12,8 @@ ghost use Rattle.recorder.specs.Record.{kind as «kind-of», address as «addre
 ghost use Rattle.device.specs.Ranges.{wellFormed};
 ghost use Rattle.device.specs.Lcr.{divisorAccess};
 ghost use Rattle.invariant.specs.Touch.{reachesQueue, numbersOf};
-ghost use Rattle.recorded.specs.Record.{stepOf, Way};
+ghost use Rattle.recorded.specs.Record.{stepOf};
+ghost use Rattle.recorded.specs.Way.{Way};
 
 // The ways of a record: it changes nothing, is a write that reaches no queue, a write to THR, a read
 // that may change the state, ticks, or any other record.

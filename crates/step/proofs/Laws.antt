@@ -11,10 +11,10 @@ use Rattle.device.specs.Autoflow.{settledLatches, settled}
 use Rattle.device.specs.Thr.{thrWrite}
 use Rattle.device.specs.Calls.{readRegister, writeRegister}
 use Rattle.queue.specs.Queue.{putByte}
-use Rattle.invariant.specs.Touch.{byNumbers, Touches, reachesQueue, numbersOf}
+use Rattle.invariant.specs.Touch.{reachesQueue, numbersOf}
 use Rattle.invariant.proofs.Good.{good-of}
 use Rattle.invariant.proofs.Settled.{settled-same}
-use Rattle.invariant.proofs.Touched.{settled-touches, numbers-touched}
+use Rattle.invariant.proofs.Touched.{byNumbers, Touches, settled-touches, numbers-touched}
 use Rattle.bus.specs.Readable.{Readable}
 
 -- What a read needs of the state.

@@ -16,7 +16,7 @@ ghost use mathlib.Core.Path.{_≡_};
 ghost use lib.Dec.{leb};
 ghost use Rattle.device.specs.State.{freshOf};
 ghost use Rattle.device.specs.Pins.{outputs as «outputs-of», noOutputs};
-ghost use Rattle.device.specs.Calls.{refused as «refused-of», resetOf, readOf, writeOf, sinOf, modemOf, tickOf, ticksOf, ticksAnswer, pinsOf};
+ghost use Rattle.device.specs.Calls.{refused as «refused-of», resetOf, readOf, writeOf, sinOf, modemOf, tickOf, ticksAnswer, pinsOf};
 
 // Every output 0, as a refusal answers.
 fn no_outputs() -> Outputs

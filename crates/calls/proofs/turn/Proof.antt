@@ -3,7 +3,7 @@ use Rattle.blocks.specs.declared.Held.{Held}
 use Rattle.session.specs.Session.{standing}
 use Rattle.lines.specs.Lines.{reading}
 use Rattle.lines.proofs.Held.{led-still}
-use mathlib.Core.Path.{_≡_, sym, ap, _∙_}
+use mathlib.Core.Path.{sym, ap, _∙_}
 use mathlib.Core.Bool.{false≢true}
 use mathlib.Core.List.{List, [], _++_}
 use Prim.Native.Nat.{ℕ}

@@ -1,12 +1,9 @@
 -- A read, and its byte.
 use mathlib.Core.Path.{sym, _∙_}
-use Prim.Native.Nat.{_-_}
 use borrow.Author.Tests.{eq-eqb, ne-eqb}
 use borrow.Author.Needs.{needs}
 use Rattle.capture.proofs.differs.Statement.{statement}
 use Rattle.capture.proofs.differs.Tie as tie
-use Rattle.recorder.proofs.record.byte.Reads as byte-reads
-use Rattle.recorder.proofs.record.kind.Reads as kind-reads
 
 kind-requires : tie.Need-kind-requires
 kind-requires c κs = search needs

@@ -1,11 +1,9 @@
 -- Beyond the records no record stands.
 use Rattle.capture.specs.Replay.{goodAt}
-use Prim.Native.Nat.{_-_}
 use borrow.Author.Tests.{lt-ltb, le-ltb}
 use borrow.Author.Needs.{needs}
 use Rattle.capture.proofs.good_at.Statement.{statement}
 use Rattle.capture.proofs.good_at.Tie as tie
-use Rattle.recorder.proofs.record.good.Reads as good-reads
 
 returns : tie.Need-returns
 unfolding goodAt

@@ -4,16 +4,11 @@ use Rattle.invariant.proofs.Good.{Places}
 use Rattle.queue.proofs.Laws.{length-mapped}
 use Rattle.capture.specs.declared.Replayed.{Replayed}
 use Rattle.capture.specs.Replay.{replayOf}
-use Prim.Native.Nat.{_-_}
 use mathlib.Core.Path.{sym, ap, _∙_}
 use borrow.Author.Tests.{not-true, not-false}
 use borrow.Author.Needs.{needs}
 use Rattle.capture.proofs.replay.Statement.{statement}
 use Rattle.capture.proofs.replay.Tie as tie
-use Rattle.capture.proofs.refused.Reads as refused-reads
-use Rattle.capture.proofs.replay_records.Reads as replay-records-reads
-use Rattle.ranges.proofs.well_formed.Reads as well-formed-reads
-use Rattle.recorder.proofs.file.known.Reads as known-reads
 
 places : (c : tie.Start) → Places (c .args .s)
 places c = record { bytes-long = search needs; entries-long = search (length-mapped, c .good .0 .1 .1 .1 .1 .1 .1 .1 .1 .0, needs) }

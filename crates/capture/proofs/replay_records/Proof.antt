@@ -1,6 +1,5 @@
 -- What is left to replay from the current state answers as the whole does.
 use Rattle.queue.proofs.Laws.{length-mapped}
-use Rattle.recorder.specs.Record.{byte}
 use Rattle.device.specs.declared.Numbers.{Numbers}
 use Rattle.device.specs.declared.State.{State}
 use Rattle.device.specs.State.{withRegisters, withBaud, withTx, withLatches}
@@ -20,16 +19,6 @@ use borrow.Author.Tests.{not-true, not-false}
 use borrow.Author.Needs.{needs}
 use Rattle.capture.proofs.replay_records.Statement.{statement}
 use Rattle.capture.proofs.replay_records.Tie as tie
-use Rattle.capture.proofs.differs.Reads as differs-reads
-use Rattle.capture.proofs.good_at.Reads as good-at-reads
-use Rattle.capture.proofs.stopped.Reads as stopped-reads
-use Rattle.recorded.proofs.ticks.Reads as ticks-reads
-use Rattle.recorded.proofs.other.Reads as other-reads
-use Rattle.recorded.proofs.after_read.Reads as after-read-reads
-use Rattle.recorded.proofs.numbers.Reads as numbers-reads
-use Rattle.recorded.proofs.shows.Reads as shows-reads
-use Rattle.recorded.proofs.transmit.Reads as transmit-reads
-use Rattle.recorded.proofs.way.Reads as way-reads
 
 abbrev Inv-loop : tie.InvT-loop
 Inv-loop records t₀ model₀ i₀ t model i = Replaying t₀ records t i

@@ -1,14 +1,10 @@
 -- The three ways out are the definition's.
 use Rattle.capture.specs.Replay.{stoppedAt}
 use mathlib.Core.Path.{sym, _∙_}
-use Prim.Native.Nat.{_-_}
 use borrow.Author.Tests.{lt-ltb, le-ltb, not-true, not-false}
 use borrow.Author.Needs.{needs}
 use Rattle.capture.proofs.stopped.Statement.{statement}
 use Rattle.capture.proofs.stopped.Tie as tie
-use Rattle.capture.proofs.refused.Reads as refused-reads
-use Rattle.recorder.proofs.record.byte.Reads as byte-reads
-use Rattle.recorder.proofs.record.good.Reads as good-reads
 
 returns : tie.Need-returns
 unfolding stoppedAt

@@ -1,6 +1,5 @@
 -- Each case's values are the definition's.
 use Rattle.capture.specs.Replay.{valuesOf}
-use Prim.Native.Nat.{_-_}
 use mathlib.Core.Path.{sym, ap}
 use borrow.Author.Needs.{needs}
 use Rattle.capture.proofs.values_of.Statement.{statement}

@@ -5,7 +5,7 @@ use Rattle.capture_file.specs.declared.Progress.{Progress}
 use Rattle.device.specs.State.{freshOf}
 use Rattle.recorder.specs.File.{wordsOf, goodHeader, version}
 use Rattle.capture_file.proofs.Carried.{onward-none, rest-none, rest-records, short-file, headed-file}
-use Prim.Native.Nat.{ℕ, _-_, _≤_}
+use Prim.Native.Nat.{ℕ, _≤_}
 use mathlib.Core.Path.{_≡_, refl, sym, ap, _∙_}
 use mathlib.Core.Bool.{true, false}
 use mathlib.Core.List.{List, [], _∷_, _++_}
@@ -16,11 +16,6 @@ use borrow.Author.Tests.{not-true, not-false}
 use borrow.Author.Needs.{needs}
 use Rattle.capture_file.proofs.begin.Statement.{statement}
 use Rattle.capture_file.proofs.begin.Tie as tie
-use Rattle.capture_file.proofs.unread.Reads as unread-reads
-use Rattle.device.proofs.fresh.Reads as fresh-reads
-use Rattle.recorder.proofs.file.decode.Reads as decode-reads
-use Rattle.recorder.proofs.file.good_header.Reads as good-header-reads
-use Rattle.recorder.proofs.file.version.Reads as version-reads
 
 -- a file refused before its first record
 abbrev unread : ℕ → Progress

@@ -3,7 +3,7 @@ use Rattle.recorder.proofs.Laws.{left, length-left}
 use Rattle.capture_file.proofs.Carried.{rest-none, last-none, last-left}
 use Rattle.capture.specs.Replay.{agreeing}
 use Rattle.capture_file.specs.File.{restOf}
-use Prim.Native.Nat.{ℕ, _-_, _<_}
+use Prim.Native.Nat.{ℕ, _<_}
 use mathlib.Core.Path.{_≡_, refl, sym, ap, _∙_}
 use mathlib.Core.Bool.{true}
 use mathlib.Core.List.{List, [], _∷_, append-nil}
@@ -13,9 +13,6 @@ use borrow.Author.Tests.{not-true, not-false}
 use borrow.Author.Needs.{needs}
 use Rattle.capture_file.proofs.finish.Statement.{statement}
 use Rattle.capture_file.proofs.finish.Tie as tie
-use Rattle.capture_file.proofs.agreeing.Reads as agreeing-reads
-use Rattle.capture_file.proofs.go_on.Reads as go-on-reads
-use Rattle.capture.proofs.refused.Reads as refused-reads
 
 nothing : (xs : List ℕ) → length xs ≡ 0 → xs ≡ []
 nothing [] e = refl

@@ -6,7 +6,7 @@ use Rattle.recorder.specs.File.{wordsOf}
 use Rattle.capture_file.proofs.Carried.{rest-none, rest-records, later-agreeing, is-agreed, goes-on, agreed-known, place-within}
 use Rattle.capture.specs.Replay.{agreeing}
 use Rattle.capture_file.specs.File.{onward}
-use Prim.Native.Nat.{_+_, _-_, _≤_}
+use Prim.Native.Nat.{_≤_}
 use mathlib.Core.Path.{_≡_, sym, ap, _∙_}
 use mathlib.Core.Bool.{true, false, true≢false}
 use mathlib.Core.List.{_++_}
@@ -16,10 +16,6 @@ use borrow.Author.Tests.{not-true, not-false}
 use borrow.Author.Needs.{needs}
 use Rattle.capture_file.proofs.go_on.Statement.{statement}
 use Rattle.capture_file.proofs.go_on.Tie as tie
-use Rattle.capture_file.proofs.agreeing.Reads as agreeing-reads
-use Rattle.capture_file.proofs.onward.Reads as onward-reads
-use Rattle.capture.proofs.replay.Reads as replay-reads
-use Rattle.recorder.proofs.file.decode.Reads as decode-reads
 
 agreeing-requires : tie.Need-agreeing-requires
 agreeing-requires c κs = search needs

@@ -2,13 +2,11 @@
 use Rattle.capture_file.specs.File.{later}
 use Rattle.capture.specs.Replay.{valuesOf}
 use Rattle.capture.specs.declared.Outcome.{Outcome}
-use Prim.Native.Nat.{_-_}
 use mathlib.Core.Path.{sym, ap, _∙_}
 use native.Mathlib.Omega.{arith}
 use borrow.Author.Needs.{needs}
 use Rattle.capture_file.proofs.onward.Statement.{statement}
 use Rattle.capture_file.proofs.onward.Tie as tie
-use Rattle.capture.proofs.refused.Reads as refused-reads
 
 enum-told : tie.Need-enum-told
 enum-told c = search needs

@@ -1,5 +1,5 @@
 -- A word that is one of these has its row, which takes the number if it is in range; any other has none, or one that asks for more numbers or for none.
-use Rattle.text.specs.Text.{text, same}
+use Rattle.text.specs.Text.{text}
 use Rattle.command.proofs.Commands.{found, ticks-none, ticks-some, level-some, run-some, read-some, sin-some, modem-some, no-large, no-one}
 use mathlib.Core.Path.{refl, sym, _∙_}
 use mathlib.Core.List.{[], _∷_}

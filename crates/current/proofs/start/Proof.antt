@@ -1,7 +1,6 @@
 -- The fresh state.
 use Rattle.current.specs.Current.{held}
 use mathlib.Core.Path.{ap}
-use borrow.Author.Needs.{needs}
 use Rattle.current.proofs.start.Statement.{statement}
 use Rattle.current.proofs.start.Tie as tie
 

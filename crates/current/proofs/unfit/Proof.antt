@@ -2,7 +2,6 @@
 use Rattle.device.specs.declared.State.{State}
 use Rattle.device.specs.State.{withRegisters, withIer}
 use mathlib.Core.Path.{ap}
-use borrow.Author.Needs.{needs}
 use Rattle.current.proofs.unfit.Statement.{statement}
 use Rattle.current.proofs.unfit.Tie as tie
 

@@ -2,7 +2,6 @@
 use Rattle.forecast.proofs.Asked.{forecast-ranged}
 use Rattle.frame.proofs.Frames.{frame-length-bounds}
 use Rattle.frame.specs.Format.{formatOf}
-use lib.ListN.{length}
 use native.Mathlib.Omega.{arith}
 use borrow.Author.Needs.{needs}
 use Rattle.forecast.proofs.pulses_to_come.Statement.{statement}

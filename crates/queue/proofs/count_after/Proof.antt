@@ -1,6 +1,5 @@
 -- The two ways of the test.
 use Rattle.queue.specs.Queue.{countPut}
-use Prim.Native.Nat.{_-_}
 use borrow.Author.Tests.{lt-ltb, le-ltb}
 use borrow.Author.Needs.{needs}
 use Rattle.queue.proofs.count_after.Statement.{statement}

@@ -1,5 +1,4 @@
 -- The two ways of the test.
-use Prim.Native.Nat.{_-_}
 use native.Mathlib.Omega.{arith}
 use borrow.Author.Tests.{lt-ltb, le-ltb}
 use Rattle.queue.proofs.next_place.Statement.{statement}

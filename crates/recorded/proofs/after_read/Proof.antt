@@ -1,13 +1,10 @@
 -- The read's state on a well-formed state.
 use Rattle.recorded.proofs.Laws.{read-step}
 use mathlib.Core.Path.{sym}
-use Prim.Native.Nat.{_-_}
 use borrow.Author.Tests.{eqb-true}
 use borrow.Author.Needs.{needs}
 use Rattle.recorded.proofs.after_read.Statement.{statement}
 use Rattle.recorded.proofs.after_read.Tie as tie
-use Rattle.recorder.proofs.record.address.Reads as address-reads
-use Rattle.step.proofs.after_read.Reads as after-read-reads
 
 address-requires : tie.Need-address-requires
 address-requires c κs = search needs

@@ -1,12 +1,8 @@
 -- The write's numbers on a well-formed state.
 use Rattle.recorded.proofs.Laws.{write-step}
-use Prim.Native.Nat.{_-_}
 use borrow.Author.Needs.{needs}
 use Rattle.recorded.proofs.numbers.Statement.{statement}
 use Rattle.recorded.proofs.numbers.Tie as tie
-use Rattle.recorder.proofs.record.address.Reads as address-reads
-use Rattle.recorder.proofs.record.byte.Reads as byte-reads
-use Rattle.step.proofs.numbers.Reads as numbers-reads
 
 address-requires : tie.Need-address-requires
 address-requires c κs = search needs

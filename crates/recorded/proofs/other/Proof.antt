@@ -1,19 +1,9 @@
 -- Each arm is the call that the record stands for, on a well-formed state.
 use Rattle.recorded.proofs.Laws.{write-step, sin-step, modem-step, reset-step, other-step}
 use mathlib.Core.Path.{sym, _∙_}
-use Prim.Native.Nat.{_-_}
 use borrow.Author.Needs.{needs}
 use Rattle.recorded.proofs.other.Statement.{statement}
 use Rattle.recorded.proofs.other.Tie as tie
-use Rattle.recorder.proofs.record.address.Reads as address-reads
-use Rattle.recorder.proofs.record.byte.Reads as byte-reads
-use Rattle.recorder.proofs.record.kind.Reads as kind-reads
-use Rattle.recorder.proofs.record.modem.Reads as modem-reads
-use Rattle.recorder.proofs.record.sin.Reads as sin-reads
-use Rattle.step.proofs.reset.Reads as reset-reads
-use Rattle.step.proofs.set_modem.Reads as set-modem-reads
-use Rattle.step.proofs.set_sin.Reads as set-sin-reads
-use Rattle.step.proofs.write.Reads as write-reads
 
 kind-requires : tie.Need-kind-requires
 kind-requires c κs = search needs

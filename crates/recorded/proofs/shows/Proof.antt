@@ -2,13 +2,9 @@
 use Rattle.step.proofs.Laws.{readable}
 use Rattle.recorded.proofs.Laws.{read-shows, unread-shows}
 use mathlib.Core.Path.{sym, _∙_}
-use Prim.Native.Nat.{_-_}
 use borrow.Author.Needs.{needs}
 use Rattle.recorded.proofs.shows.Statement.{statement}
 use Rattle.recorded.proofs.shows.Tie as tie
-use Rattle.bus.proofs.value.Reads as value-reads
-use Rattle.recorder.proofs.record.address.Reads as address-reads
-use Rattle.recorder.proofs.record.kind.Reads as kind-reads
 
 kind-requires : tie.Need-kind-requires
 kind-requires c κs = search needs

@@ -4,8 +4,6 @@ use mathlib.Core.Path.{sym}
 use borrow.Author.Needs.{needs}
 use Rattle.recorded.proofs.ticks.Statement.{statement}
 use Rattle.recorded.proofs.ticks.Tie as tie
-use Rattle.recorder.proofs.record.count.Reads as count-reads
-use Rattle.step.proofs.ticks.Reads as ticks-reads
 
 count-requires : tie.Need-count-requires
 count-requires c κs = search needs

@@ -1,14 +1,9 @@
 -- A write to THR, which the rules that end a step leave as it is.
 use Rattle.recorded.proofs.Laws.{thr-step}
-use Prim.Native.Nat.{_-_}
 use Rattle.device.specs.Thr.{thrWrite}
 use borrow.Author.Needs.{needs}
 use Rattle.recorded.proofs.transmit.Statement.{statement}
 use Rattle.recorded.proofs.transmit.Tie as tie
-use Rattle.device.proofs.fifo.capacity.Reads as capacity-reads
-use Rattle.device.proofs.with_empty.Reads as with-empty-reads
-use Rattle.queue.proofs.bytes.put.Reads as put-reads
-use Rattle.recorder.proofs.record.byte.Reads as byte-reads
 
 capacity-requires : tie.Need-capacity-requires
 capacity-requires c κs = search needs

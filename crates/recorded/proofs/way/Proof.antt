@@ -1,14 +1,10 @@
 -- By the kind.
 use Rattle.recorded.proofs.Laws.{ticks-way, other-way}
 use mathlib.Core.Path.{sym, _∙_}
-use Prim.Native.Nat.{_-_}
 use borrow.Author.Tests.{eq-eqb}
 use borrow.Author.Needs.{needs}
 use Rattle.recorded.proofs.way.Statement.{statement}
 use Rattle.recorded.proofs.way.Tie as tie
-use Rattle.recorder.proofs.record.kind.Reads as kind-reads
-use Rattle.recorded.proofs.way_of_read.Reads as way-of-read-reads
-use Rattle.recorded.proofs.way_of_write.Reads as way-of-write-reads
 
 kind-requires : tie.Need-kind-requires
 kind-requires c κs = search needs

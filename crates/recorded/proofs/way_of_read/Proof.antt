@@ -5,12 +5,9 @@ use Rattle.recorder.specs.Record.{address}
 use Rattle.device.specs.Calls.{readRegister}
 use mathlib.Core.Path.{_≡_, _∙_}
 use borrow.Author.Tests.{eqb-true}
-use Prim.Native.Nat.{_-_}
 use borrow.Author.Needs.{needs}
 use Rattle.recorded.proofs.way_of_read.Statement.{statement}
 use Rattle.recorded.proofs.way_of_read.Tie as tie
-use Rattle.bus.proofs.read_changes.Reads as read-changes-reads
-use Rattle.recorder.proofs.record.address.Reads as address-reads
 
 address-requires : tie.Need-address-requires
 address-requires c κs = search needs

@@ -1,13 +1,10 @@
 -- By the address: FCR, THR, or another.
 use Rattle.recorded.proofs.Laws.{transmit-way, numbers-way, other-way}
 use mathlib.Core.Path.{sym, _∙_}
-use Prim.Native.Nat.{_-_}
 use native.Mathlib.Omega.{arith}
 use borrow.Author.Needs.{needs}
 use Rattle.recorded.proofs.way_of_write.Statement.{statement}
 use Rattle.recorded.proofs.way_of_write.Tie as tie
-use Rattle.bus.proofs.reaches_queue.Reads as reaches-queue-reads
-use Rattle.recorder.proofs.record.address.Reads as address-reads
 
 address-requires : tie.Need-address-requires
 address-requires c κs = search needs

@@ -1,10 +1,7 @@
 -- The registers' state, settled.
-use Prim.Native.Nat.{_-_}
 use borrow.Author.Needs.{needs}
 use Rattle.step.proofs.after_read.Statement.{statement}
 use Rattle.step.proofs.after_read.Tie as tie
-use Rattle.bus.proofs.after_read.Reads as after-read-reads
-use Rattle.device.proofs.autoflow.settle.Reads as settle-reads
 
 after-read-requires : tie.Need-after-read-requires
 after-read-requires c κs = search needs

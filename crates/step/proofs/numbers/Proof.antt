@@ -1,11 +1,8 @@
 -- What the rules that end a step look at beside the numbers stays.
 use Rattle.step.proofs.Laws.{numbers-set}
-use Prim.Native.Nat.{_-_}
 use borrow.Author.Needs.{needs}
 use Rattle.step.proofs.numbers.Statement.{statement}
 use Rattle.step.proofs.numbers.Tie as tie
-use Rattle.bus.proofs.write_numbers.Reads as write-numbers-reads
-use Rattle.device.proofs.autoflow.settle_latches.Reads as settle-latches-reads
 
 write-numbers-requires : tie.Need-write-numbers-requires
 write-numbers-requires c κs = search needs

@@ -2,15 +2,11 @@
 use Rattle.step.proofs.Laws.{readable, read-stays}
 use mathlib.Core.Path.{_≡_}
 use borrow.Author.Tests.{not-true}
-use Prim.Native.Nat.{_-_}
 use Rattle.device.specs.Autoflow.{settled}
 use Rattle.device.specs.Calls.{readRegister}
 use borrow.Author.Needs.{needs}
 use Rattle.step.proofs.read.Statement.{statement}
 use Rattle.step.proofs.read.Tie as tie
-use Rattle.bus.proofs.read_changes.Reads as read-changes-reads
-use Rattle.bus.proofs.value.Reads as value-reads
-use Rattle.step.proofs.after_read.Reads as after-read-reads
 
 value-requires : tie.Need-value-requires
 value-requires c κs = readable _ (c .pre)

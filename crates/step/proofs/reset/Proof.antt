@@ -2,8 +2,6 @@
 use borrow.Author.Needs.{needs}
 use Rattle.step.proofs.reset.Statement.{statement}
 use Rattle.step.proofs.reset.Tie as tie
-use Rattle.device.proofs.autoflow.settle.Reads as settle-reads
-use Rattle.device.proofs.reset.Reads as reset-reads
 
 reset-requires : tie.Need-reset-requires
 reset-requires c κs = search needs

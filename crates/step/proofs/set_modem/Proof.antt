@@ -1,13 +1,9 @@
 -- The changes of the effective levels, then the rules that end a step.
-use Prim.Native.Nat.{_-_}
 use Rattle.device.specs.Msr.{withLevels}
 use Rattle.device.specs.Autoflow.{settled}
 use borrow.Author.Needs.{needs}
 use Rattle.step.proofs.set_modem.Statement.{statement}
 use Rattle.step.proofs.set_modem.Tie as tie
-use Rattle.device.proofs.autoflow.settle_latches.Reads as settle-latches-reads
-use Rattle.device.proofs.modem.effective_levels.Reads as effective-levels-reads
-use Rattle.registers.proofs.msr.latches_after.Reads as latches-after-reads
 
 effective-levels-requires : tie.Need-effective-levels-requires
 effective-levels-requires c κs = search needs

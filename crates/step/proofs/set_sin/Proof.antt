@@ -1,11 +1,9 @@
 -- The rules that end a step do not look at the pins.
 use Rattle.step.proofs.Laws.{settled-inputs}
 use mathlib.Core.Path.{_∙_}
-use Prim.Native.Nat.{_-_}
 use borrow.Author.Needs.{needs}
 use Rattle.step.proofs.set_sin.Statement.{statement}
 use Rattle.step.proofs.set_sin.Tie as tie
-use Rattle.device.proofs.with_inputs.Reads as with-inputs-reads
 
 with-inputs-requires : tie.Need-with-inputs-requires
 with-inputs-requires c κs = search needs

@@ -1,14 +1,9 @@
 -- By the queue that the write reaches, or by its numbers.
 use Rattle.step.proofs.Laws.{numbers-settled}
 use mathlib.Core.Path.{sym, _∙_}
-use Prim.Native.Nat.{_-_}
 use borrow.Author.Needs.{needs}
 use Rattle.step.proofs.write.Statement.{statement}
 use Rattle.step.proofs.write.Tie as tie
-use Rattle.bus.proofs.reaches_queue.Reads as reaches-queue-reads
-use Rattle.bus.proofs.write_queue.Reads as write-queue-reads
-use Rattle.device.proofs.autoflow.settle.Reads as settle-reads
-use Rattle.step.proofs.numbers.Reads as numbers-reads
 
 reaches-queue-requires : tie.Need-reaches-queue-requires
 reaches-queue-requires c κs = search needs

@@ -7,7 +7,6 @@ use lib.ListN.{length}
 use native.Mathlib.Omega.{arith}
 use borrow.Author.Needs.{needs}
 use Rattle.capture_file.specs.declared.Progress as parts
-use Rattle.client.specs.declared.file.Progress.{Progress}
 use Rattle.client.specs.Replay.{replayAnswer}
 use Rattle.client.proofs.file.end.Statement.{statement}
 use Rattle.client.proofs.file.end.Tie as tie

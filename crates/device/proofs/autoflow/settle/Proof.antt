@@ -3,7 +3,6 @@ use Rattle.device.specs.Autoflow.{settled}
 use borrow.Author.Needs.{needs}
 use Rattle.device.proofs.autoflow.settle.Statement.{statement}
 use Rattle.device.proofs.autoflow.settle.Tie as tie
-use Rattle.device.proofs.autoflow.settle_latches.Reads as settle-latches-reads
 
 settle-latches-requires : tie.Need-settle-latches-requires
 settle-latches-requires c κs = search needs

@@ -3,8 +3,6 @@ use Rattle.device.specs.Autoflow.{settledLatches}
 use borrow.Author.Needs.{needs}
 use Rattle.device.proofs.autoflow.settle_latches.Statement.{statement}
 use Rattle.device.proofs.autoflow.settle_latches.Tie as tie
-use Rattle.device.proofs.autoflow.settled_changes.Reads as settled-changes-reads
-use Rattle.device.proofs.autoflow.settled_hold.Reads as settled-hold-reads
 
 settled-changes-requires : tie.Need-settled-changes-requires
 settled-changes-requires c κs = search needs

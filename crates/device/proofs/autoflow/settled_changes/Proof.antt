@@ -1,5 +1,5 @@
 -- The two ways of the definition.
-use Rattle.device.specs.Autoflow.{autoflow, settledChanges}
+use Rattle.device.specs.Autoflow.{settledChanges}
 use mathlib.Core.Path.{sym, _∙_}
 use borrow.Author.Needs.{needs}
 use Rattle.device.proofs.autoflow.settled_changes.Statement.{statement}

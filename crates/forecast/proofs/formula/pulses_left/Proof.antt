@@ -2,7 +2,6 @@
 use Rattle.frame.specs.Forecast.{pulsesLeft}
 use native.Mathlib.Nat.{mul-le-mul}
 use Prim.Native.Nat.{_*_, _≤_}
-use lib.ListN.{length}
 use native.Mathlib.Omega.{arith}
 use borrow.Author.Tests.{lt-ltb, le-ltb}
 use Rattle.forecast.proofs.formula.pulses_left.Statement.{statement}

@@ -1,14 +1,10 @@
 -- A full queue of more than one place keeps its places; else what is put has its place.
 use Rattle.queue.specs.Queue.{putByte}
 use Rattle.queue.proofs.Laws.{put-keeps, put-places}
-use Prim.Native.Nat.{_-_}
 use mathlib.Core.Path.{sym, _∙_}
 use borrow.Author.Needs.{needs}
 use Rattle.queue.proofs.bytes.put.Statement.{statement}
 use Rattle.queue.proofs.bytes.put.Tie as tie
-use Rattle.queue.proofs.count_after.Reads as count-after-reads
-use Rattle.queue.proofs.keeps.Reads as keeps-reads
-use Rattle.queue.proofs.next_place.Reads as next-place-reads
 
 keeps-requires : tie.Need-keeps-requires
 keeps-requires c κs = search needs

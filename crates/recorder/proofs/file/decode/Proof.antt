@@ -8,7 +8,6 @@ use native.Mathlib.Omega.{arith}
 use borrow.Author.Needs.{needs}
 use Rattle.recorder.proofs.file.decode.Statement.{statement}
 use Rattle.recorder.proofs.file.decode.Tie as tie
-use Rattle.recorder.proofs.file.word.Reads as word-reads
 
 abbrev Inv-loop : tie.InvT-loop
 Inv-loop bytes words₀ n i₀ words i = Decoding bytes words₀ words i

@@ -1,10 +1,7 @@
 use Rattle.recorder.specs.Record.{good}
-use Prim.Native.Nat.{_-_}
 use borrow.Author.Needs.{needs}
 use Rattle.recorder.proofs.record.good.Statement.{statement}
 use Rattle.recorder.proofs.record.good.Tie as tie
-use Rattle.recorder.proofs.record.kind.Reads as kind-reads
-use Rattle.recorder.proofs.record.room.Reads as room-reads
 
 kind-requires : tie.Need-kind-requires
 kind-requires c κs = search needs

@@ -1,5 +1,4 @@
 -- Each arm is the definition's for that kind.
-use Prim.Native.Nat.{_-_}
 use borrow.Author.Tests.{ne-eqb}
 use Rattle.recorder.proofs.record.room.Statement.{statement}
 use Rattle.recorder.proofs.record.room.Tie as tie

@@ -28,7 +28,7 @@ use queue::ByteQueue;
 use queue::Entry;
 use queue::EntryQueue;
 ghost use mathlib.Core.Path.{_≡_};
-ghost use Rattle.export.specs.Layout.{sizes, stateSpecimen, answerSpecimen, lookedSpecimen, forecastedSpecimen, leveledSpecimen, ranSpecimen, valuesSpecimen, replayedSpecimen, progressSpecimen};
+ghost use Rattle.layout.specs.Layout.{sizes, stateSpecimen, answerSpecimen, lookedSpecimen, forecastedSpecimen, leveledSpecimen, ranSpecimen, valuesSpecimen, replayedSpecimen, progressSpecimen};
 
 // The sizes in bytes.
 #[repr(C)]
@@ -43,8 +43,7 @@ pub struct Sizes {
     pub progress: u32,
 }
 
-#[no_mangle]
-pub extern "C" fn uart_sizes_of_structs() -> Sizes
+pub fn sizes_of_structs() -> Sizes
     ensures { λ r. ⌜ r ≡ sizes ⌝ }
 {
     Sizes {
@@ -60,8 +59,7 @@ pub extern "C" fn uart_sizes_of_structs() -> Sizes
 }
 
 // The state: fields 1..33.
-#[no_mangle]
-pub extern "C" fn uart_specimen_state() -> State
+pub fn specimen_state() -> State
     ensures { λ r. ⌜ r ≡ stateSpecimen ⌝ }
 {
     let e = Entry {
@@ -119,8 +117,7 @@ pub extern "C" fn uart_specimen_state() -> State
     }
 }
 
-#[no_mangle]
-pub extern "C" fn uart_specimen_looked() -> Looked
+pub fn specimen_looked() -> Looked
     ensures { λ r. ⌜ r ≡ lookedSpecimen ⌝ }
 {
     Looked {
@@ -136,8 +133,7 @@ pub extern "C" fn uart_specimen_looked() -> Looked
     }
 }
 
-#[no_mangle]
-pub extern "C" fn uart_specimen_forecasted() -> Forecasted
+pub fn specimen_forecasted() -> Forecasted
     ensures { λ r. ⌜ r ≡ forecastedSpecimen ⌝ }
 {
     Forecasted {
@@ -146,8 +142,7 @@ pub extern "C" fn uart_specimen_forecasted() -> Forecasted
     }
 }
 
-#[no_mangle]
-pub extern "C" fn uart_specimen_leveled() -> Leveled
+pub fn specimen_leveled() -> Leveled
     ensures { λ r. ⌜ r ≡ leveledSpecimen ⌝ }
 {
     Leveled {
@@ -156,28 +151,26 @@ pub extern "C" fn uart_specimen_leveled() -> Leveled
     }
 }
 
-#[no_mangle]
-pub extern "C" fn uart_specimen_answer() -> Answer
+pub fn specimen_answer() -> Answer
     ensures { λ r. ⌜ r ≡ answerSpecimen ⌝ }
 {
-    let looked = uart_specimen_looked();
+    let looked = specimen_looked();
     let outputs = looked.outputs;
     Answer {
         number: 100,
         byte: 101,
         outputs,
-        state: uart_specimen_state(),
+        state: specimen_state(),
     }
 }
 
-#[no_mangle]
-pub extern "C" fn uart_specimen_ran() -> Ran
+pub fn specimen_ran() -> Ran
     ensures { λ r. ⌜ r ≡ ranSpecimen ⌝ }
 {
     Ran {
         number: 100,
         used: 0x65656565,
-        state: uart_specimen_state(),
+        state: specimen_state(),
     }
 }
 
@@ -192,18 +185,16 @@ fn specimen_values() -> Values
     }
 }
 
-#[no_mangle]
-pub extern "C" fn uart_specimen_replayed() -> Replay
+pub fn specimen_replayed() -> Replay
     ensures { λ r. ⌜ r ≡ replayedSpecimen ⌝ }
 {
     Replay {
         values: specimen_values(),
-        state: uart_specimen_state(),
+        state: specimen_state(),
     }
 }
 
-#[no_mangle]
-pub extern "C" fn uart_specimen_progress() -> Progress
+pub fn specimen_progress() -> Progress
     ensures { λ r. ⌜ r ≡ progressSpecimen ⌝ }
 {
     Progress {
@@ -211,6 +202,6 @@ pub extern "C" fn uart_specimen_progress() -> Progress
         stopped: 111,
         done: 0x7070707070707070,
         values: specimen_values(),
-        state: uart_specimen_state(),
+        state: specimen_state(),
     }
 }
