@@ -102,10 +102,10 @@ pub fn frame_level(byte: u8, format: u8, place: u32) -> u8
 pub fn less(a: u32, b: u32) -> u32
     ensures { λ r. ⌜ r ≡ a - b ⌝ }
 {
-    if a < b {
-        return 0;
+    if b <= a {
+        return a - b;
     }
-    a - b
+    0
 }
 
 // The transmitter's line with `left` pulses left of the frame of this byte.
