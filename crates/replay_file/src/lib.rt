@@ -76,7 +76,7 @@ fn replay_blocks(
 ) -> Judged
     requires { ⌜ begun .place ≡ 0 ⌝ }
     requires { ⌜ length (now block) ≡ 32768 ⌝ }
-    requires { ⌜ length (now records) ≡ 128 ⌝ }
+    requires { ⌜ length (now records) ≡ 512 ⌝ }
     ensures { λ r. ⌜ (r .failed ≡ false → OfRest begun (r .replayed)) ⌝ }
 {
     let mut p = begun;
@@ -117,13 +117,13 @@ fn replay_blocks(
 fn judge(fd: i32) -> Judged
     ensures { λ r. ⌜ (r .failed ≡ false → OfFile (r .replayed)) ⌝ }
 {
+    let watch = progress::start();
     let mut header = [0u8; 8];
     let mut block = [0u8; 32768];
-    let mut records = [0u32; 128];
+    let mut records = [0u32; 512];
     let f = fill(fd, &mut header, 0, progress::silent());
     let n = f.count;
     let p = capture_file::begin(&header[..n]);
-    let watch = progress::start();
     if f.failed {
         let replayed = p.replayed;
         return Judged {

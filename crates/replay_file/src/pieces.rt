@@ -9,8 +9,8 @@ ghost use Prim.Native.Nat.{ℕ, _+_, _*_, _/_, _≤_, _^_};
 ghost use lib.ListN.{length, take, drop};
 ghost use Rattle.capture_file.specs.File.{restOf};
 
-// The bytes of a piece of 128 records.
-const PIECE: usize = 512;
+// The bytes of a piece of 512 records.
+const PIECE: usize = 2048;
 
 // Where a replay stands.
 pub struct Standing {
@@ -22,7 +22,7 @@ pub struct Standing {
 pub fn go_on(p: Progress, bytes: &[u8], records: &mut [u32], watch: Watch) -> Standing
     requires { ⌜ p .place ≤ 2 ^ 63 ⌝ }
     requires { ⌜ length (now bytes) ≤ 2 ^ 62 ⌝ }
-    requires { ⌜ length (now records) ≡ 128 ⌝ }
+    requires { ⌜ length (now records) ≡ 512 ⌝ }
     ensures { λ r. ⌜ ((rest : List ℕ) → restOf (r .progress) (drop (4 * (length (now (bytes .entry)) / 4)) (now (bytes .entry)) ++ rest) ≡ restOf p (now (bytes .entry) ++ rest)) ⌝ }
     ensures { λ r. ⌜ r .progress .place ≤ p .place + length (now (bytes .entry)) / 4 ⌝ }
 {
@@ -45,7 +45,7 @@ pub fn go_on(p: Progress, bytes: &[u8], records: &mut [u32], watch: Watch) -> St
 fn finish(p: Progress, bytes: &[u8], records: &mut [u32], watch: Watch) -> Judged
     requires { ⌜ p .place ≤ 2 ^ 63 ⌝ }
     requires { ⌜ length (now bytes) ≤ 2 ^ 62 ⌝ }
-    requires { ⌜ length (now records) ≡ 128 ⌝ }
+    requires { ⌜ length (now records) ≡ 512 ⌝ }
     ensures { λ r. ⌜ r .replayed ≡ restOf p (now (bytes .entry)) ⌝ }
 {
     let s = go_on(p, bytes, records, watch);
@@ -70,7 +70,7 @@ pub fn finish_block(
     requires { ⌜ p .place ≤ 2 ^ 63 ⌝ }
     requires { ⌜ n ≤ length (now block) ⌝ }
     requires { ⌜ length (now block) ≤ 2 ^ 62 ⌝ }
-    requires { ⌜ length (now records) ≡ 128 ⌝ }
+    requires { ⌜ length (now records) ≡ 512 ⌝ }
     ensures { λ r. ⌜ r .replayed ≡ restOf p (take n (now (block .entry))) ⌝ }
 {
     finish(p, &block[..n], records, watch)

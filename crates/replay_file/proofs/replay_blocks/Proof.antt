@@ -11,7 +11,7 @@ use Rattle.replay_file.proofs.replay_blocks.Statement.{statement}
 use Rattle.replay_file.proofs.replay_blocks.Tie as tie
 
 abbrev Inv-loop : tie.InvT-loop
-Inv-loop fd block₀ records₀ p₀ watch₀ blocks₀ block records p watch blocks = (length block ≡ 32768) × (length records ≡ 128) × (p .place + 8192 * blocks ≤ 9223372036854775808) × Read p₀ p
+Inv-loop fd block₀ records₀ p₀ watch₀ blocks₀ block records p watch blocks = (length block ≡ 32768) × (length records ≡ 512) × (p .place + 8192 * blocks ≤ 9223372036854775808) × Read p₀ p
 
 abbrev μ-loop : tie.MeasureT-loop
 μ-loop fd block₀ records₀ p₀ watch₀ blocks₀ block records p watch blocks = blocks

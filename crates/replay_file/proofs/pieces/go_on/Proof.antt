@@ -9,7 +9,7 @@ use Rattle.replay_file.proofs.pieces.go_on.Statement.{statement}
 use Rattle.replay_file.proofs.pieces.go_on.Tie as tie
 
 abbrev Inv-loop : tie.InvT-loop
-Inv-loop bytes records₀ q₀ w₀ at₀ records q w at = (Blocks q₀ bytes q at) × (length records ≡ length records₀) × (length records₀ ≡ 128) × (q₀ .place ≤ 2 ^ 63) × (length bytes ≤ 2 ^ 62)
+Inv-loop bytes records₀ q₀ w₀ at₀ records q w at = (Blocks q₀ bytes q at) × (length records ≡ length records₀) × (length records₀ ≡ 512) × (q₀ .place ≤ 2 ^ 63) × (length bytes ≤ 2 ^ 62)
 
 abbrev μ-loop : tie.MeasureT-loop
 μ-loop bytes records₀ q₀ w₀ at₀ records q w at = length bytes - at
@@ -46,11 +46,11 @@ loop-again c =
     let inv = c .before .before .before .before .before .before .before .loop .inv in
     let at = c .before .before .before .before .before .before .before .loop .at in
     let bytes = c .before .before .before .before .before .before .before .before .before .before .args .bytes .now in
-    let e : (at + 512 - at) % 4 ≡ 0 = omega arith in
-    let f : at + (at + 512 - at) ≡ at + 512 = omega arith in
-    let h : at + 512 ≤ length bytes = omega (arith, inv .0 .most, c .before .before .before .before .before .before .loop-test .taken) in
+    let e : (at + 2048 - at) % 4 ≡ 0 = omega arith in
+    let f : at + (at + 2048 - at) ≡ at + 2048 = omega arith in
+    let h : at + 2048 ≤ length bytes = omega (arith, inv .0 .most, c .before .before .before .before .before .before .loop-test .taken) in
     let done = c .before .before .before .go-on in
-    (block-done (inv .0) (done .result) (at + 512 - at) (at + 512) e f h (done .ensures .0) (done .ensures .1 .0), done .kept .1 .1 .0 ∙ inv .1, inv .2, inv .3, inv .4)
+    (block-done (inv .0) (done .result) (at + 2048 - at) (at + 2048) e f h (done .ensures .0) (done .ensures .1 .0), done .kept .1 .1 .0 ∙ inv .1, inv .2, inv .3, inv .4)
 
 sub-go-on-2 : tie.Need-sub-go-on-2 Inv-loop μ-loop
 sub-go-on-2 c = search needs
