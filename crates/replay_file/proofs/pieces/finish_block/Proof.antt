@@ -1,21 +1,17 @@
 -- The first n bytes are n bytes.
-use Prim.Native.Nat.{_≤_, _^_}
-use mathlib.Core.Path.{_≡_, sym}
-use lib.ListN.{length, take}
-use lib.Seq.{length-take-le}
+use lib.ListN.{length-take}
 use native.Mathlib.Omega.{arith}
 use borrow.Author.Needs.{needs}
 use Rattle.replay_file.proofs.pieces.finish_block.Statement.{statement}
 use Rattle.replay_file.proofs.pieces.finish_block.Tie as tie
 
 slice-aggregate-finish : tie.Need-slice-aggregate-finish
-slice-aggregate-finish c = sym (length-take-le _ _ (omega arith))
+slice-aggregate-finish c = simp length-take (omega arith)
 
 finish-requires : tie.Need-finish-requires
 finish-requires c κs =
-    let start = c .before .before .before .before in
-    let long : length (take (start .args .n) (start .args .block .now)) ≡ start .args .n = length-take-le _ _ (start .pre .1 .0) in
-    (start .pre .0, (omega (arith, long, start .pre), start .pre .1 .1 .1))
+    let pre = c .before .before .before .before .pre in
+    (pre .0, (simp length-take (omega (arith, pre)), pre .1 .1 .1))
 
 same-length : tie.Need-same-length
 same-length c = search needs
