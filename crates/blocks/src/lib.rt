@@ -1,6 +1,7 @@
 // A block of input: its lines answered, and the answers written to standard output.
 use current::Session;
 use libc::STDOUT_FILENO;
+use lines::Progress;
 ghost use mathlib.Core.Path.{_≡_};
 ghost use mathlib.Core.Bool.{true};
 ghost use mathlib.Core.List.{List, [], _++_};
@@ -11,6 +12,7 @@ ghost use Rattle.numbers.specs.Numbers.{stateCount};
 ghost use Rattle.current.specs.Current.{longestAnswer};
 ghost use Rattle.session.specs.Session.{Standing, standing};
 ghost use Rattle.lines.specs.Lines.{reading, readAfter, Answered, Led};
+ghost use Rattle.blocks.specs.Written.{AnswersOf, LastOf};
 
 // What was answered of a block: the current state, the place after the last line answered, whether
 // there may be more, and whether the answers could be written.
@@ -29,6 +31,20 @@ pub struct Held {
     pub more: bool,
 }
 
+// Writes the answers to the next lines of a block, and answers whether they could be written.
+fn write_answers(p: Part, block: &[u8], said: Progress, kept: &[u32], answers: &[u8]) -> bool
+    requires { ⌜ AnswersOf (p .session) (now block) (p .next) (standing (said .session) (now kept)) (said .next) (now answers) ⌝ }
+{
+    io::write_all(STDOUT_FILENO, answers)
+}
+
+// Writes the answer to the last line, and answers whether it could be written.
+fn write_last(s: Session, line: &[u8], answer: &[u8]) -> bool
+    requires { ⌜ LastOf s (now line) (now answer) ⌝ }
+{
+    io::write_all(STDOUT_FILENO, answer)
+}
+
 // Answers the next lines of a block, as many as the buffer takes, and writes the answers.
 fn answer_some(p: Part, block: &[u8], numbers: &mut [u32], kept: &mut [u32], out: &mut [u8]) -> Part
     requires { ⌜ p .next ≤ length (now block) ⌝ }
@@ -40,7 +56,7 @@ fn answer_some(p: Part, block: &[u8], numbers: &mut [u32], kept: &mut [u32], out
     let from = p.next;
     let said = lines::answer_lines(s, block, from, numbers, kept, out);
     let end = said.end;
-    let written = io::write_all(STDOUT_FILENO, &out[..end]);
+    let written = write_answers(p, block, said, kept, &out[..end]);
     let session = said.session;
     Part {
         session,
@@ -126,5 +142,5 @@ pub fn finish(
     requires { ⌜ longestAnswer ≤ length (now out) ⌝ }
 {
     let end = lines::answer_last(s, line, numbers, kept, out);
-    io::write_all(STDOUT_FILENO, &out[..end])
+    write_last(s, line, &out[..end])
 }

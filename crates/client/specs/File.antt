@@ -24,7 +24,7 @@ outcomeOf stopped v =
     cond (eqb stopped 0) Outcome.Agreed
     (cond (eqb stopped 1) (Outcome.Differs (v .place) (v .seen) (v .model)) (Outcome.Refused (v .number) (v .place)))
 
--- a client's progress as `capture` has it, and back
+-- a client's progress as `capture_file` has it, and back
 
 abbrev pub carriedOf : Progress → parts.Progress
 carriedOf p =

@@ -65,7 +65,7 @@ fn outcome_of(stopped: u8, v: Values) -> Outcome
     }
 }
 
-// The progress as `parts` has it, and back.
+// The progress as `capture_file` has it, and back.
 fn carried(p: Progress) -> capture_file::Progress
     ensures { λ r. ⌜ r ≡ carriedOf p ⌝ }
 {

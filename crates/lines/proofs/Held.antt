@@ -56,7 +56,7 @@ alike-more : (a b x : List ℕ) → heldOf a ≡ heldOf b → heldOf (a ++ x) �
 alike-more a b x e =
     take-front (suc longestLine) a x ∙ ap (λ (l : List ℕ). heldOf (l ++ x)) e ∙ sym (take-front (suc longestLine) b x)
 
--- They lead to the same, and the same is written for them.
+-- They lead to the same.
 pub alike-read : (w : Standing) (more a b : List ℕ) → heldOf a ≡ heldOf b → held (readAfter w a more) ≡ held (readAfter w b more)
 unfolding readAfter
 alike-read w [] a b e = ap (reading w) e
@@ -65,17 +65,6 @@ alike-read w (c ∷ cs) a b e = go (eqb c 10) (alike-read w cs (a ++ (c ∷ []))
     go : (t : Bool) → held (readAfter w (a ++ (c ∷ [])) cs) ≡ held (readAfter w (b ++ (c ∷ [])) cs)
         → held (cond t (readAfter (lineNext w a) [] cs) (readAfter w (a ++ (c ∷ [])) cs)) ≡ held (cond t (readAfter (lineNext w b) [] cs) (readAfter w (b ++ (c ∷ [])) cs))
     go true f = ap (λ (v : Standing). held (readAfter v [] cs)) (alike-next w a b e)
-    go false f = f
-
-pub alike-written : (w : Standing) (more a b : List ℕ) → heldOf a ≡ heldOf b → writtenAfter w a more ≡ writtenAfter w b more
-unfolding writtenAfter
-alike-written w [] a b e = refl
-alike-written w (c ∷ cs) a b e = go (eqb c 10) (alike-written w cs (a ++ (c ∷ [])) (b ++ (c ∷ [])) (alike-more a b (c ∷ []) e))
-  where
-    go : (t : Bool) → writtenAfter w (a ++ (c ∷ [])) cs ≡ writtenAfter w (b ++ (c ∷ [])) cs
-        → cond t (lineSaid w a ++ writtenAfter (lineNext w a) [] cs) (writtenAfter w (a ++ (c ∷ [])) cs) ≡ cond t (lineSaid w b ++ writtenAfter (lineNext w b) [] cs) (writtenAfter w (b ++ (c ∷ [])) cs)
-    go true f =
-        ap (λ (s : List ℕ). s ++ writtenAfter (lineNext w a) [] cs) (alike-said w a b e) ∙ ap (λ (v : Standing). lineSaid w b ++ writtenAfter v [] cs) (alike-next w a b e)
     go false f = f
 
 -- Bytes that come in two parts: the second follow what the first lead to.

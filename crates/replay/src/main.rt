@@ -7,12 +7,15 @@ use text::words;
 ghost use Prim.Native.Nat.{_≤_};
 ghost use lib.ListN.{length};
 
-// What the program is.
+// Says what the program is.
 fn help() {
-    io::write_all(
+    let written = io::write_all(
         STDOUT_FILENO,
-        b"usage: replay [--help] [FILE ..]\n\nReplays each capture FILE on the model, standard input where there is none or for -,\nand writes a line for each, after its name where there are several:\n\nagreed                      every read saw what the model answers\ndiffers PLACE SEEN MODEL    the first read that did not, counted from 0\nrefused NUMBER PLACE        6 no capture, 7 unknown version, 8 bad record\n\nThe exit status is always 0; the answer is the line. Where reading or writing fails,\nstandard error says so, and there is no line.\n",
+        b"usage: replay [--help] [FILE ..]\n\nReplays each capture FILE on the model, standard input where there is none or for -,\nand writes a line for each, after its name where there are several:\n\nagreed                      every read saw what the model answers\ndiffers PLACE SEEN MODEL    the first read that did not, counted from 0\nrefused NUMBER PLACE        6 no capture, 7 unknown version, 8 bad record, or cut off\n\nThe exit status is always 0; the answer is the line. Where reading or writing fails,\nstandard error says so, and there is no line.\n",
     );
+    if !written {
+        replay_file::tell(b"standard output");
+    }
 }
 
 // Replays standard input.

@@ -2,6 +2,7 @@
 use capture::Outcome;
 use libc::STDOUT_FILENO;
 use text::buffer;
+ghost use mathlib.Core.Path.{_≡_};
 ghost use Prim.Native.Nat.{_+_, _≤_};
 ghost use lib.ListN.{length};
 ghost use Rattle.text.specs.Text.{Appended};
@@ -20,13 +21,20 @@ fn put_answer(several: bool, name: &[u8], o: Outcome, out: &mut [u8]) -> usize
     outcome::put_outcome(o, out, at)
 }
 
-// Writes the line of an outcome, and answers whether it could be written.
+// Writes this line, which is that of the outcome, and answers whether it could be written.
+fn write_line(several: bool, name: &[u8], o: Outcome, line: &[u8]) -> bool
+    requires { ⌜ now line ≡ answerLine several (now name) o ⌝ }
+{
+    io::write_all(STDOUT_FILENO, line)
+}
+
+// Says the line of an outcome, and answers whether it could be written.
 pub fn say(several: bool, name: &[u8], o: Outcome) -> bool
     requires { ⌜ length (now name) ≤ 4096 ⌝ }
 {
     let mut line = [0u8; 4138];
     let end = put_answer(several, name, o, &mut line);
-    io::write_all(STDOUT_FILENO, &line[..end])
+    write_line(several, name, o, &line[..end])
 }
 
 // Tells that a capture cannot be read, and why.

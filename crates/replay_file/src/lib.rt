@@ -1,6 +1,7 @@
 // Reads a capture from a file descriptor, 8,192 records at a time, replays it from the fresh state,
 // and writes how that ended.
 mod answer;
+mod pieces;
 mod progress;
 
 pub use answer::tell;
@@ -9,7 +10,7 @@ use capture_file::Progress;
 use progress::Watch;
 ghost use mathlib.Core.Path.{_≡_};
 ghost use mathlib.Core.Bool.{false};
-ghost use Prim.Native.Nat.{_≤_};
+ghost use Prim.Native.Nat.{_+_, _≤_, _<_, _^_};
 ghost use lib.ListN.{length};
 ghost use Rattle.io.specs.Counts.{Counts};
 ghost use Rattle.replay_file.specs.Captures.{OfRest, OfFile};
@@ -21,6 +22,7 @@ const BLOCKS: usize = 1125899906842624;
 struct Filled {
     count: usize,
     failed: bool,
+    watch: Watch,
 }
 
 // The answer for a capture, unless a read failed.
@@ -30,10 +32,12 @@ struct Judged {
     watch: Watch,
 }
 
-// Reads until the block is full, the input ends or a read fails.
-fn fill(fd: i32, block: &mut [u8]) -> Filled
+// Reads until the block is full, the input ends or a read fails. `place` is that of its first record.
+fn fill(fd: i32, block: &mut [u8], place: usize, started: Watch) -> Filled
+    requires { ⌜ place + length (now block) < 2 ^ 64 ⌝ }
     ensures { λ r. ⌜ Counts (r .count) (now (block .exit)) ⌝ }
 {
+    let mut watch = started;
     let mut used: usize = 0;
     while used < block.len() {
         let got = libc::read(fd, &mut block[used..]);
@@ -41,6 +45,7 @@ fn fill(fd: i32, block: &mut [u8]) -> Filled
             return Filled {
                 count: used,
                 failed: true,
+                watch,
             };
         }
         let n = io::count(got, &block[used..]);
@@ -48,13 +53,16 @@ fn fill(fd: i32, block: &mut [u8]) -> Filled
             return Filled {
                 count: used,
                 failed: false,
+                watch,
             };
         }
         used += n;
+        watch = progress::tell(watch, place + used / 4);
     }
     Filled {
         count: used,
         failed: false,
+        watch,
     }
 }
 
@@ -68,7 +76,7 @@ fn replay_blocks(
 ) -> Judged
     requires { ⌜ begun .place ≡ 0 ⌝ }
     requires { ⌜ length (now block) ≡ 32768 ⌝ }
-    requires { ⌜ length (now records) ≡ 8192 ⌝ }
+    requires { ⌜ length (now records) ≡ 512 ⌝ }
     ensures { λ r. ⌜ (r .failed ≡ false → OfRest begun (r .replayed)) ⌝ }
 {
     let mut p = begun;
@@ -84,31 +92,25 @@ fn replay_blocks(
                 watch,
             };
         }
-        let f = fill(fd, block);
+        let f = fill(fd, block, p.place, watch);
+        let w = f.watch;
         let n = f.count;
         if f.failed {
             return Judged {
                 replayed: so_far,
                 failed: true,
-                watch,
+                watch: w,
             };
         }
         if n < block.len() {
-            return Judged {
-                replayed: capture_file::finish(p, &block[..n], records),
-                failed: false,
-                watch,
-            };
+            return pieces::finish_block(p, block, n, records, w);
         }
-        p = capture_file::go_on(p, block, records);
-        watch = progress::tell(watch, p.place);
+        let s = pieces::go_on(p, block, records, w);
+        p = s.progress;
+        watch = s.watch;
         blocks -= 1;
     }
-    Judged {
-        replayed: capture_file::finish(p, &block[..0], records),
-        failed: false,
-        watch,
-    }
+    pieces::finish_block(p, block, 0, records, watch)
 }
 
 // The answer for the capture that a file descriptor gives.
@@ -118,8 +120,8 @@ fn judge(fd: i32) -> Judged
     let watch = progress::start();
     let mut header = [0u8; 8];
     let mut block = [0u8; 32768];
-    let mut records = [0u32; 8192];
-    let f = fill(fd, &mut header);
+    let mut records = [0u32; 512];
+    let f = fill(fd, &mut header, 0, progress::silent());
     let n = f.count;
     let p = capture_file::begin(&header[..n]);
     if f.failed {
@@ -131,11 +133,7 @@ fn judge(fd: i32) -> Judged
         };
     }
     if n < 8 {
-        return Judged {
-            replayed: capture_file::finish(p, &header[..0], &mut records),
-            failed: false,
-            watch,
-        };
+        return pieces::finish_block(p, &header, 0, &mut records, watch);
     }
     replay_blocks(fd, p, &mut block, &mut records, watch)
 }

@@ -51,7 +51,7 @@ answer-line-requires : tie.Need-answer-line-requires Inv-loop μ-loop
 answer-line-requires c κs =
     let i = c .before .before .before .before .before .before .before .loop .inv in
     let pre = c .before .before .before .before .before .before .before .before .before .before .before .before .pre in
-    (i .0 ∙ pre .1 .0, (i .1 .0 ∙ pre .1 .1, c .before .before .before .before .before .before .loop-test .taken))
+    (i .0 ∙ pre .1 .0, (i .1 .0 ∙ pre .1 .1, omega (arith, c .before .before .before .before .before .before .loop-test .taken)))
 
 add-next : tie.Need-add-next Inv-loop μ-loop
 add-next c = omega (arith, c .before .before .before .before .before .before .before .before .before .before .before .before .before .find .ensures .1, c .before .before .before .before .before .before .before .before .before .before .before .before .if1 .left, c .before .before .before .before .before .before .before .before .before .before .before .before .before .before .before .before .before .before .before .before .good .1 .0 .0)

@@ -1,7 +1,7 @@
 -- What is read stays within the block.
 use Rattle.io.specs.Counts.{Counts}
 use lib.Seq.{length-take-le}
-use Prim.Native.Nat.{ℕ, _-_, _≤_}
+use Prim.Native.Nat.{ℕ, _+_, _-_, _≤_, _<_, _^_}
 use mathlib.Core.Path.{_≡_, sym}
 use mathlib.Core.List.{List}
 use lib.ListN.{length}
@@ -10,10 +10,10 @@ use Rattle.replay_file.proofs.fill.Statement.{statement}
 use Rattle.replay_file.proofs.fill.Tie as tie
 
 abbrev Inv-loop : tie.InvT-loop
-Inv-loop fd block₀ used₀ block used = (used ≤ length block) × (length block ≡ length block₀)
+Inv-loop fd block₀ place watch₀ used₀ block watch used = (used ≤ length block) × (length block ≡ length block₀) × (place + length block₀ < 2 ^ 64)
 
 abbrev μ-loop : tie.MeasureT-loop
-μ-loop fd block₀ used₀ block used = length block₀ - used
+μ-loop fd block₀ place watch₀ used₀ block watch used = length block₀ - used
 
 counted : (n : ℕ) (xs : List ℕ) → n ≤ length xs → Counts n xs
 counted n xs h = (h, sym (length-take-le n xs h))
@@ -60,6 +60,12 @@ returns-2 c = counted _ _ (search needs)
 add-used : tie.Need-add-used Inv-loop μ-loop
 add-used c = search needs
 
+add-tell : tie.Need-add-tell Inv-loop μ-loop
+add-tell c = search needs
+
+tell-requires : tie.Need-tell-requires Inv-loop μ-loop
+tell-requires c κs = search needs
+
 loop-less : tie.Need-loop-less Inv-loop μ-loop
 loop-less c = search needs
 
@@ -92,6 +98,8 @@ fill-spec =
     same-length-2
     returns-2
     add-used
+    add-tell
+    tell-requires
     loop-less
     loop-again
     same-length-3

@@ -14,6 +14,9 @@ start-requires c κs = search needs
 slice-aggregate-fill : tie.Need-slice-aggregate-fill
 slice-aggregate-fill c = search needs
 
+silent-requires : tie.Need-silent-requires
+silent-requires c κs = search needs
+
 fill-requires : tie.Need-fill-requires
 fill-requires c κs = search needs
 
@@ -29,23 +32,20 @@ begin-requires c κs = search needs
 returns : tie.Need-returns
 returns c = λ e. absurd (false≢true (sym e))
 
-array-share-prefix-header-2 : tie.Need-array-share-prefix-header-2
-array-share-prefix-header-2 c = search needs
+slice-aggregate-finish-block : tie.Need-slice-aggregate-finish-block
+slice-aggregate-finish-block c = search needs
 
-slice-aggregate-finish : tie.Need-slice-aggregate-finish
-slice-aggregate-finish c = search needs
+slice-aggregate-finish-block-2 : tie.Need-slice-aggregate-finish-block-2
+slice-aggregate-finish-block-2 c = search needs
 
-slice-aggregate-finish-2 : tie.Need-slice-aggregate-finish-2
-slice-aggregate-finish-2 c = search needs
-
-finish-requires : tie.Need-finish-requires
-finish-requires c κs = search needs
+finish-block-requires : tie.Need-finish-block-requires
+finish-block-requires c κs = search needs
 
 returns-2 : tie.Need-returns-2
 returns-2 c =
     let fill = c .before .before .before .before .before .before .before .before .before .fill in
     let begin = c .before .before .before .before .before .before .begin in
-    λ _. short-of (begin .result) (take (fill .result .count) (fill .last .1 .0)) _ (begin .ensures .1 .0) (omega (arith, fill .ensures .1, c .before .before .before .before .if2 .taken)) (c .before .finish .ensures)
+    λ _. short-of (begin .result) (take (fill .result .count) (fill .last .1 .0)) _ (begin .ensures .1 .0) (omega (arith, fill .ensures .1, c .before .before .before .before .if2 .taken)) (c .before .finish-block .ensures)
 
 slice-aggregate-replay-blocks : tie.Need-slice-aggregate-replay-blocks
 slice-aggregate-replay-blocks c = search needs
@@ -68,15 +68,15 @@ judge-spec =
     (tie.spec
     start-requires
     slice-aggregate-fill
+    silent-requires
     fill-requires
     array-share-prefix-header
     slice-aggregate-begin
     begin-requires
     returns
-    array-share-prefix-header-2
-    slice-aggregate-finish
-    slice-aggregate-finish-2
-    finish-requires
+    slice-aggregate-finish-block
+    slice-aggregate-finish-block-2
+    finish-block-requires
     returns-2
     slice-aggregate-replay-blocks
     slice-aggregate-replay-blocks-2

@@ -11,7 +11,7 @@ use Rattle.replay_file.proofs.replay_blocks.Statement.{statement}
 use Rattle.replay_file.proofs.replay_blocks.Tie as tie
 
 abbrev Inv-loop : tie.InvT-loop
-Inv-loop fd block₀ records₀ p₀ watch₀ blocks₀ block records p watch blocks = (length block ≡ 32768) × (length records ≡ 8192) × (p .place + 8192 * blocks ≤ 9223372036854775808) × Read p₀ p
+Inv-loop fd block₀ records₀ p₀ watch₀ blocks₀ block records p watch blocks = (length block ≡ 32768) × (length records ≡ 512) × (p .place + 8192 * blocks ≤ 9223372036854775808) × Read p₀ p
 
 abbrev μ-loop : tie.MeasureT-loop
 μ-loop fd block₀ records₀ p₀ watch₀ blocks₀ block records p watch blocks = blocks
@@ -43,23 +43,17 @@ same-length-4 c = search needs
 returns-2 : tie.Need-returns-2 Inv-loop μ-loop
 returns-2 c = λ e. absurd (false≢true (sym e))
 
-slice-reshare-prefix-finish : tie.Need-slice-reshare-prefix-finish Inv-loop μ-loop
-slice-reshare-prefix-finish c = search needs
-
-slice-aggregate-finish : tie.Need-slice-aggregate-finish Inv-loop μ-loop
-slice-aggregate-finish c = search needs
-
-finish-requires : tie.Need-finish-requires Inv-loop μ-loop
-finish-requires c κs = search needs
+finish-block-requires : tie.Need-finish-block-requires Inv-loop μ-loop
+finish-block-requires c κs = search needs
 
 same-length-5 : tie.Need-same-length-5 Inv-loop μ-loop
-same-length-5 c = omega (arith, c .before .before .before .before .before .before .before .before .before .fill .kept .1 .0, c .before .before .before .before .before .before .before .before .before .before .before .before .before .before .before .loop .inv .0, c .before .before .before .before .before .before .before .before .before .before .before .before .before .before .before .before .before .before .pre .1)
+same-length-5 c = omega (arith, c .before .before .before .before .before .before .before .before .before .before .fill .kept .1 .0, c .before .before .before .before .before .before .before .before .before .before .before .before .before .before .before .before .loop .inv .0, c .before .before .before .before .before .before .before .before .before .before .before .before .before .before .before .before .before .before .before .pre .1)
 
 same-length-6 : tie.Need-same-length-6 Inv-loop μ-loop
-same-length-6 c = omega (arith, c .before .before .finish .kept .1 .1 .0, c .before .before .before .before .before .before .before .before .before .before .before .before .before .before .before .loop .inv .1, c .before .before .before .before .before .before .before .before .before .before .before .before .before .before .before .before .before .before .pre .1)
+same-length-6 c = omega (arith, c .before .before .finish-block .kept .1 .1 .1 .0, c .before .before .before .before .before .before .before .before .before .before .before .before .before .before .before .before .loop .inv .1, c .before .before .before .before .before .before .before .before .before .before .before .before .before .before .before .before .before .before .before .pre .1)
 
 returns-3 : tie.Need-returns-3 Inv-loop μ-loop
-returns-3 c = λ _. read-ends (c .before .before .before .before .before .before .before .before .before .before .before .before .before .before .before .loop .inv .3) _ _ (c .before .before .finish .ensures)
+returns-3 c = λ _. read-ends (c .before .before .before .before .before .before .before .before .before .before .before .before .before .before .before .before .loop .inv .3) _ _ (c .before .before .finish-block .ensures)
 
 go-on-requires : tie.Need-go-on-requires Inv-loop μ-loop
 go-on-requires c κs = search needs
@@ -72,9 +66,13 @@ loop-less c = search needs
 
 loop-again : tie.Need-loop-again Inv-loop μ-loop
 loop-again c =
-    let inv = c .before .before .before .before .before .before .before .before .before .before .before .before .before .before .before .before .loop .inv in
-    let fill = c .before .before .before .before .before .before .before .before .before .before .fill in
-    (search needs, search needs, search needs, read-block (inv .3) (c .before .before .before .go-on .result) (fill .last .1 .0) (fill .kept .1 .0 ∙ inv .0) (c .before .before .before .go-on .ensures .0))
+    let inv = c .before .before .before .before .before .before .before .before .before .before .before .before .before .before .before .before .before .before .loop .inv in
+    let fill = c .before .before .before .before .before .before .before .before .before .before .before .before .fill in
+    let done = c .before .before .before .before .go-on in
+    (search needs, search needs, omega (arith, done .ensures .1, fill .kept .1 .0, inv .0, inv .2, c .before .before .before .before .before .before .before .before .before .before .before .before .before .before .before .before .before .loop-test .taken), read-block (inv .3) (done .result .progress) (fill .last .1 .0) (fill .kept .1 .0 ∙ inv .0) (done .ensures .0))
+
+finish-block-requires-2 : tie.Need-finish-block-requires-2 Inv-loop μ-loop
+finish-block-requires-2 c κs = search needs
 
 same-length-7 : tie.Need-same-length-7 Inv-loop μ-loop
 same-length-7 c = search needs
@@ -83,19 +81,7 @@ same-length-8 : tie.Need-same-length-8 Inv-loop μ-loop
 same-length-8 c = search needs
 
 returns-4 : tie.Need-returns-4 Inv-loop μ-loop
-returns-4 c = λ _. read-ends (c .before .before .before .before .before .before .loop .inv .3) _ _ (c .before .before .finish2 .ensures)
-
-tell-requires : tie.Need-tell-requires Inv-loop μ-loop
-tell-requires c κs = search needs
-
-slice-reshare-prefix-finish-2 : tie.Need-slice-reshare-prefix-finish-2 Inv-loop μ-loop
-slice-reshare-prefix-finish-2 c = search needs
-
-slice-aggregate-finish-2 : tie.Need-slice-aggregate-finish-2 Inv-loop μ-loop
-slice-aggregate-finish-2 c = search needs
-
-finish-requires-2 : tie.Need-finish-requires-2 Inv-loop μ-loop
-finish-requires-2 c κs = search needs
+returns-4 c = λ _. read-ends (c .before .before .before .before .before .before .loop .inv .3) _ _ (c .before .before .finish-block2 .ensures)
 
 pub replay-blocks-spec : {M : Type 1} → statement M
 replay-blocks-spec =
@@ -112,20 +98,15 @@ replay-blocks-spec =
     same-length-3
     same-length-4
     returns-2
-    slice-reshare-prefix-finish
-    slice-aggregate-finish
-    finish-requires
+    finish-block-requires
     same-length-5
     same-length-6
     returns-3
     go-on-requires
-    tell-requires
     sub-blocks
     loop-less
     loop-again
-    slice-reshare-prefix-finish-2
-    slice-aggregate-finish-2
-    finish-requires-2
+    finish-block-requires-2
     same-length-7
     same-length-8
     returns-4)

@@ -1,5 +1,7 @@
 -- All whole records, and then what is left; a file of too many records is refused.
-use Rattle.client.proofs.Parts.{ends, end-told, too-many-told}
+use Rattle.client.proofs.Parts.{end-told, too-many-told}
+use Rattle.capture_file.specs.File.{restOf}
+use Rattle.capture_file.proofs.Parts.{rest-ends}
 use Rattle.client.specs.File.{restAnswer}
 use Prim.Native.Nat.{_+_, _-_, _*_, _/_, _≤_}
 use mathlib.Core.Path.{_≡_, ap, _∙_}
@@ -64,7 +66,7 @@ returns-3 c =
     let blocks = c .before .before .before .before .before .replay-blocks in
     let begun = c .before .before .before .before .before .before .carried in
     let all : c .answered .result ≡ restAnswer (start .args .p) bytes =
-    c .answered .ensures ∙ ap replayAnswer (c .before .before .finish .ensures ∙ ends (start .args .p) (begun .result) (blocks .result) bytes n whole (begun .ensures) (blocks .ensures .0))
+    c .answered .ensures ∙ ap replayAnswer (c .before .before .finish .ensures ∙ rest-ends (begun .result) (blocks .result) bytes n whole (blocks .ensures .0) ∙ ap (λ (x : parts.Progress). restOf x bytes) (begun .ensures))
     in (
       λ h. all,
       (

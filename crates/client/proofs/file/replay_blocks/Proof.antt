@@ -1,6 +1,6 @@
 -- The bytes before `at` are replayed.
-use Rattle.client.proofs.Parts.{Blocks, block-done, last-done, last-place}
-use Prim.Native.Nat.{_+_, _-_, _≤_, _^_}
+use Rattle.capture_file.proofs.Parts.{Blocks, block-done, last-done, last-place}
+use Prim.Native.Nat.{_+_, _-_, _%_, _≤_, _^_}
 use mathlib.Core.Path.{_≡_, refl}
 use lib.ListN.{length}
 use native.Mathlib.Omega.{arith}
@@ -46,7 +46,7 @@ loop-again c =
     let inv = c .before .before .before .before .before .loop .inv in
     let at = c .before .before .before .before .before .loop .at in
     let bytes = c .before .before .before .before .before .before .before .args .bytes .now in
-    let e : at + 16384 - at ≡ 16384 = omega arith in
+    let e : (at + 16384 - at) % 4 ≡ 0 = omega arith in
     let f : at + (at + 16384 - at) ≡ at + 16384 = omega arith in
     let h : at + 16384 ≤ length bytes = omega arith in
     (block-done (inv .0) (c .before .go-on .result) (at + 16384 - at) (at + 16384) e f h (c .before .go-on .ensures .0) (c .before .go-on .ensures .1 .0), omega (arith, c .before .go-on .kept .1 .1 .0, inv .1), inv .2)

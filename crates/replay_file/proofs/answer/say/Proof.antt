@@ -1,4 +1,4 @@
--- The line ends within its buffer.
+-- What is written is the line, which ends within its buffer.
 use lib.Seq.{length-take-le}
 use Rattle.text.proofs.Texts.{appended-room}
 use mathlib.Core.Path.{sym}
@@ -16,11 +16,11 @@ put-answer-requires c κs = search needs
 array-share-prefix-line : tie.Need-array-share-prefix-line
 array-share-prefix-line c = appended-room _ _ _ _ _ (c .before .put-answer .ensures) (omega arith)
 
-slice-aggregate-write-all : tie.Need-slice-aggregate-write-all
-slice-aggregate-write-all c = sym (length-take-le _ _ (array-share-prefix-line (c .before)))
+slice-aggregate-write-line : tie.Need-slice-aggregate-write-line
+slice-aggregate-write-line c = sym (length-take-le _ _ (array-share-prefix-line (c .before)))
 
-write-all-requires : tie.Need-write-all-requires
-write-all-requires c κs = search needs
+write-line-requires : tie.Need-write-line-requires
+write-line-requires c κs = c .before .before .put-answer .ensures .holds
 
 returns : tie.Need-returns
 returns c = search needs
@@ -32,6 +32,6 @@ say-spec =
     slice-aggregate-put-answer
     put-answer-requires
     array-share-prefix-line
-    slice-aggregate-write-all
-    write-all-requires
+    slice-aggregate-write-line
+    write-line-requires
     returns)
