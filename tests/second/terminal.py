@@ -96,6 +96,12 @@ def shown(answer):
     return written, SHOWN.fullmatch(said) is not None
 
 
+def quiet(answer):
+    """The answer, and whether nothing is left on the terminal."""
+    written, said = answer
+    return written, said == b"" or SHOWN.fullmatch(said) is not None
+
+
 def long_files(replay):
     """A replay of ticks, and one of so many more that it lasts some seconds on any machine, unless the
     first has. Then the same where standard error is no terminal."""
@@ -115,7 +121,7 @@ def terminals(calls, replay):
     with open("agreed", "wb") as out:
         out.write(AGREED)
     with open("agreed", "rb") as source:
-        yield "a short replay", Watched(replay, source).end(), ("agreed\n", b"")
+        yield "a short replay", quiet(Watched(replay, source).end()), ("agreed\n", True)
     yield "a slow pipe", shown(slow_pipe(replay)), ("agreed\n", True)
     answer, aside = long_files(replay)
     yield "a long replay", answer, ("agreed\n", True)

@@ -3,20 +3,15 @@ use libc::STDERR_FILENO;
 
 // The second in which this was told last, whether to tell at all, and the records that were told.
 pub struct Watch {
-    second: u64,
+    second: i64,
     tells: bool,
     records: usize,
 }
 
-// A number of seconds, 0 where the clock could not tell.
-fn seconds(told: i64) -> u64 {
-    if told > 0 { told as u64 } else { 0 }
-}
-
 // The second that it is.
-fn second() -> u64 {
+fn second() -> i64 {
     let mut now: i64 = 0;
-    seconds(libc::time(&mut now))
+    libc::time(&mut now)
 }
 
 // A watch that tells nothing.
@@ -36,15 +31,7 @@ pub fn start() -> Watch {
     }
 }
 
-// Whether a whole second has passed since one of the clock's seconds.
-fn late(since: u64, now: u64) -> bool {
-    if now <= since {
-        return false;
-    }
-    1 < now - since
-}
-
-// Tells how many records there are so far, where a second has passed and they are more than were told.
+// Tells how many records there are so far, where another second has begun and they are more than were told.
 pub fn tell(w: Watch, records: usize) -> Watch {
     if !w.tells {
         return w;
@@ -53,7 +40,7 @@ pub fn tell(w: Watch, records: usize) -> Watch {
         return w;
     }
     let now = second();
-    if !late(w.second, now) {
+    if now == w.second {
         return w;
     }
     io::write_all(STDERR_FILENO, b"\rreplay: ");
