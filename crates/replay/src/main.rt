@@ -14,7 +14,7 @@ fn help() {
         b"usage: replay [--help] [FILE ..]\n\nReplays each capture FILE on the model, standard input where there is none or for -,\nand writes a line for each, after its name where there are several:\n\nagreed                      every read saw what the model answers\ndiffers PLACE SEEN MODEL    the first read that did not, counted from 0\nrefused NUMBER PLACE        6 no capture, 7 unknown version, 8 bad record, or cut off\n\nThe exit status is always 0; the answer is the line. Where reading or writing fails,\nstandard error says so, and there is no line.\n",
     );
     if !written {
-        replay_file::tell(b"standard output");
+        answer_line::tell(b"standard output");
     }
 }
 
@@ -35,7 +35,7 @@ fn replay_named(several: bool, name: &[u8]) -> bool
     }
     let fd = os::open_read(name);
     if fd < 0 {
-        replay_file::tell(name);
+        answer_line::tell(name);
         return true;
     }
     let written = replay_file::replay(fd, several, name);

@@ -1,14 +1,10 @@
 -- What is answered for the bytes that are read: no contract says which these are.
 use Prim.Native.Nat.{ℕ}
 use mathlib.Core.Path.{_≡_}
-use mathlib.Core.Bool.{Bool, cond}
-use mathlib.Core.List.{List, [], _++_}
-use Rattle.text.specs.Text.{text}
-use Rattle.capture.specs.declared.Outcome.{Outcome}
+use mathlib.Core.List.{List}
 use Rattle.capture.specs.declared.Replayed.{Replayed}
 use Rattle.capture_file.specs.declared.Progress.{Progress}
 use Rattle.capture_file.specs.File.{captureOf, restOf}
-use Rattle.outcome.specs.Outcome.{outcomeLine}
 
 -- the answer for the file, where some bytes were still to come
 pub record OfRest (p : Progress) (r : Replayed) : Type 0 where
@@ -19,7 +15,3 @@ pub record OfRest (p : Progress) (r : Replayed) : Type 0 where
 pub record OfFile (r : Replayed) : Type 0 where
   pub bytes : List ℕ
   pub answers : r ≡ captureOf bytes
-
--- the line of an answer: its outcome, after the name of the capture where there are several
-abbrev pub answerLine : Bool → List ℕ → Outcome → List ℕ
-answerLine several name o = cond several (name ++ text ": ") [] ++ outcomeLine o

@@ -1,10 +1,9 @@
 // Reads a capture from a file descriptor, 8,192 records at a time, replays it from the fresh state,
 // and writes how that ended.
-mod answer;
 mod pieces;
 mod progress;
 
-pub use answer::tell;
+use answer_line::tell;
 use capture::Replayed;
 use capture_file::Progress;
 use progress::Watch;
@@ -153,7 +152,7 @@ pub fn replay(fd: i32, several: bool, name: &[u8]) -> bool
     }
     let r = j.replayed;
     let o = r.outcome;
-    if answer::say(several, name, o) {
+    if answer_line::say(several, name, o) {
         return true;
     }
     tell(b"standard output");

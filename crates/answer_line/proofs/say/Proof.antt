@@ -4,8 +4,8 @@ use Rattle.text.proofs.Texts.{appended-room}
 use mathlib.Core.Path.{sym}
 use native.Mathlib.Omega.{arith}
 use borrow.Author.Needs.{needs}
-use Rattle.replay_file.proofs.answer.say.Statement.{statement}
-use Rattle.replay_file.proofs.answer.say.Tie as tie
+use Rattle.answer_line.proofs.say.Statement.{statement}
+use Rattle.answer_line.proofs.say.Tie as tie
 
 slice-aggregate-put-answer : tie.Need-slice-aggregate-put-answer
 slice-aggregate-put-answer c = search needs

@@ -2,8 +2,8 @@
 use lib.Seq.{length-take-le}
 use mathlib.Core.Path.{sym}
 use borrow.Author.Needs.{needs}
-use Rattle.replay_file.proofs.answer.tell.Statement.{statement}
-use Rattle.replay_file.proofs.answer.tell.Tie as tie
+use Rattle.answer_line.proofs.tell.Statement.{statement}
+use Rattle.answer_line.proofs.tell.Tie as tie
 
 slice-aggregate-put : tie.Need-slice-aggregate-put
 slice-aggregate-put c = search needs

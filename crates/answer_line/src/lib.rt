@@ -1,4 +1,4 @@
-// The line of an answer, and the message where there is none.
+// The line of a replay's answer, and the message where there is none.
 use capture::Outcome;
 use libc::STDOUT_FILENO;
 use text::buffer;
@@ -6,7 +6,7 @@ ghost use mathlib.Core.Path.{_≡_};
 ghost use Prim.Native.Nat.{_+_, _≤_};
 ghost use lib.ListN.{length};
 ghost use Rattle.text.specs.Text.{Appended};
-ghost use Rattle.replay_file.specs.Captures.{answerLine};
+ghost use Rattle.answer_line.specs.Answer.{answerLine};
 
 // Puts the line of an outcome, after the name of the capture where there are several.
 fn put_answer(several: bool, name: &[u8], o: Outcome, out: &mut [u8]) -> usize

@@ -1,12 +1,12 @@
 -- The name where there are several, then the outcome.
 use Rattle.text.proofs.Texts.{appended-as, appended-then}
-use Rattle.replay_file.specs.Captures.{answerLine}
+use Rattle.answer_line.specs.Answer.{answerLine}
 use mathlib.Core.Path.{_≡_, sym, ap}
 use mathlib.Core.Bool.{Bool, true, false}
 use borrow.Author.Tests.{not-true, not-false}
 use borrow.Author.Needs.{needs}
-use Rattle.replay_file.proofs.answer.put_answer.Statement.{statement}
-use Rattle.replay_file.proofs.answer.put_answer.Tie as tie
+use Rattle.answer_line.proofs.put_answer.Statement.{statement}
+use Rattle.answer_line.proofs.put_answer.Tie as tie
 
 put-outcome-requires : tie.Need-put-outcome-requires
 put-outcome-requires c κs = search needs
