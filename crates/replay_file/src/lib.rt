@@ -1,12 +1,10 @@
 // Reads a capture from a file descriptor, 8,192 records at a time, replays it from the fresh state,
 // and writes how that ended.
-mod pieces;
-mod progress;
-
 use answer_line::tell;
-use capture::Replayed;
 use capture_file::Progress;
-use progress::Watch;
+use pieces::Judged;
+use pieces::progress;
+use pieces::progress::Watch;
 ghost use mathlib.Core.Path.{_≡_};
 ghost use mathlib.Core.Bool.{false};
 ghost use Prim.Native.Nat.{_+_, _≤_, _<_, _^_};
@@ -20,13 +18,6 @@ const BLOCKS: usize = 1125899906842624;
 // How many bytes were read, and whether a read failed.
 struct Filled {
     count: usize,
-    failed: bool,
-    watch: Watch,
-}
-
-// The answer for a capture, unless a read failed.
-struct Judged {
-    replayed: Replayed,
     failed: bool,
     watch: Watch,
 }

@@ -5,8 +5,8 @@ use mathlib.Core.Path.{_∙_}
 use lib.ListN.{length}
 use native.Mathlib.Omega.{arith}
 use borrow.Author.Needs.{needs}
-use Rattle.replay_file.proofs.pieces.finish.Statement.{statement}
-use Rattle.replay_file.proofs.pieces.finish.Tie as tie
+use Rattle.pieces.proofs.finish.Statement.{statement}
+use Rattle.pieces.proofs.finish.Tie as tie
 
 go-on-requires : tie.Need-go-on-requires
 go-on-requires c κs = search needs

@@ -5,8 +5,8 @@ use mathlib.Core.Path.{_≡_, refl, _∙_}
 use lib.ListN.{length}
 use native.Mathlib.Omega.{arith}
 use borrow.Author.Needs.{needs}
-use Rattle.replay_file.proofs.pieces.go_on.Statement.{statement}
-use Rattle.replay_file.proofs.pieces.go_on.Tie as tie
+use Rattle.pieces.proofs.go_on.Statement.{statement}
+use Rattle.pieces.proofs.go_on.Tie as tie
 
 abbrev Inv-loop : tie.InvT-loop
 Inv-loop bytes records₀ q₀ w₀ at₀ records q w at = (Blocks q₀ bytes q at) × (length records ≡ length records₀) × (length records₀ ≡ 512) × (q₀ .place ≤ 2 ^ 63) × (length bytes ≤ 2 ^ 62)

@@ -2,8 +2,8 @@
 use lib.ListN.{length-take}
 use native.Mathlib.Omega.{arith}
 use borrow.Author.Needs.{needs}
-use Rattle.replay_file.proofs.pieces.finish_block.Statement.{statement}
-use Rattle.replay_file.proofs.pieces.finish_block.Tie as tie
+use Rattle.pieces.proofs.finish_block.Statement.{statement}
+use Rattle.pieces.proofs.finish_block.Tie as tie
 
 slice-aggregate-finish : tie.Need-slice-aggregate-finish
 slice-aggregate-finish c = simp length-take (omega arith)

@@ -1,8 +1,9 @@
 // The bytes that were read, replayed piece by piece, with a word on how far the replay is.
-use crate::Judged;
-use crate::progress;
-use crate::progress::Watch;
+pub mod progress;
+
+use capture::Replayed;
 use capture_file::Progress;
+use progress::Watch;
 ghost use mathlib.Core.Path.{_≡_};
 ghost use mathlib.Core.List.{List, _++_};
 ghost use Prim.Native.Nat.{ℕ, _+_, _*_, _/_, _≤_, _^_};
@@ -11,6 +12,13 @@ ghost use Rattle.capture_file.specs.File.{restOf};
 
 // The bytes of a piece of 512 records.
 const PIECE: usize = 2048;
+
+// The answer for a capture, unless a read failed.
+pub struct Judged {
+    pub replayed: Replayed,
+    pub failed: bool,
+    pub watch: Watch,
+}
 
 // Where a replay stands.
 pub struct Standing {
