@@ -1,7 +1,9 @@
 // The calls for programs in C, Rust and other languages, under plain names: `rt staticlib export`
 // makes the library that they link. The structs go by value, a run of records as its address and
-// length, and each call has the contract of the call of `uart`, `foretell`, `client` or `layout` that
-// it hands on. clients/tl16c750.h declares the same for C.
+// length, and each call has the contract of the call of `uart`, `foretell` or `client` that it hands on.
+// clients/tl16c750.h declares the same for C.
+pub mod layout;
+
 use capture::Outcome;
 use client::Replay;
 use client::file;
@@ -12,7 +14,6 @@ use device::Leveled;
 use device::Looked;
 use device::Ran;
 use device::State;
-use layout::Sizes;
 ghost use mathlib.Core.Path.{_≡_};
 ghost use mathlib.Core.List.{List, [], _++_};
 ghost use lib.ListN.{length, drop};
@@ -26,7 +27,6 @@ ghost use Rattle.capture.specs.Replay.{refused as «refused-at»};
 ghost use Rattle.capture_file.specs.File.{captureOf, restOf};
 ghost use Rattle.client.specs.Replay.{replayAnswer};
 ghost use Rattle.client.specs.File.{carriedOf, beyondOf, restAnswer, ToldSoFar};
-ghost use Rattle.layout.specs.Layout.{sizes, stateSpecimen, answerSpecimen, lookedSpecimen, forecastedSpecimen, leveledSpecimen, ranSpecimen, replayedSpecimen, progressSpecimen};
 
 // The version of the library, and of the layout of its structs: this one changes where a struct does.
 #[repr(C)]
@@ -191,68 +191,4 @@ pub extern "C" fn uart_replay_end(p: Progress, bytes: &[u8]) -> Replay
     ensures agreed { λ r. ⌜ (ToldSoFar p → r .values .number ≡ 0 → r .values .seen ≡ r .values .model → restOf (carriedOf p) (now (bytes .entry)) .outcome ≡ Outcome.Agreed) ⌝ }
 {
     file::end(p, bytes)
-}
-
-// The layout of the structs: their sizes, and a specimen of each.
-#[no_mangle]
-pub extern "C" fn uart_sizes_of_structs() -> Sizes
-    ensures { λ r. ⌜ r ≡ sizes ⌝ }
-{
-    layout::sizes_of_structs()
-}
-
-#[no_mangle]
-pub extern "C" fn uart_specimen_state() -> State
-    ensures { λ r. ⌜ r ≡ stateSpecimen ⌝ }
-{
-    layout::specimen_state()
-}
-
-#[no_mangle]
-pub extern "C" fn uart_specimen_answer() -> Answer
-    ensures { λ r. ⌜ r ≡ answerSpecimen ⌝ }
-{
-    layout::specimen_answer()
-}
-
-#[no_mangle]
-pub extern "C" fn uart_specimen_looked() -> Looked
-    ensures { λ r. ⌜ r ≡ lookedSpecimen ⌝ }
-{
-    layout::specimen_looked()
-}
-
-#[no_mangle]
-pub extern "C" fn uart_specimen_forecasted() -> Forecasted
-    ensures { λ r. ⌜ r ≡ forecastedSpecimen ⌝ }
-{
-    layout::specimen_forecasted()
-}
-
-#[no_mangle]
-pub extern "C" fn uart_specimen_leveled() -> Leveled
-    ensures { λ r. ⌜ r ≡ leveledSpecimen ⌝ }
-{
-    layout::specimen_leveled()
-}
-
-#[no_mangle]
-pub extern "C" fn uart_specimen_ran() -> Ran
-    ensures { λ r. ⌜ r ≡ ranSpecimen ⌝ }
-{
-    layout::specimen_ran()
-}
-
-#[no_mangle]
-pub extern "C" fn uart_specimen_replayed() -> Replay
-    ensures { λ r. ⌜ r ≡ replayedSpecimen ⌝ }
-{
-    layout::specimen_replayed()
-}
-
-#[no_mangle]
-pub extern "C" fn uart_specimen_progress() -> Progress
-    ensures { λ r. ⌜ r ≡ progressSpecimen ⌝ }
-{
-    layout::specimen_progress()
 }

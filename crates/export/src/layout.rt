@@ -28,7 +28,7 @@ use queue::ByteQueue;
 use queue::Entry;
 use queue::EntryQueue;
 ghost use mathlib.Core.Path.{_≡_};
-ghost use Rattle.layout.specs.Layout.{sizes, stateSpecimen, answerSpecimen, lookedSpecimen, forecastedSpecimen, leveledSpecimen, ranSpecimen, valuesSpecimen, replayedSpecimen, progressSpecimen};
+ghost use Rattle.export.specs.Layout.{sizes, stateSpecimen, answerSpecimen, lookedSpecimen, forecastedSpecimen, leveledSpecimen, ranSpecimen, valuesSpecimen, replayedSpecimen, progressSpecimen};
 
 // The sizes in bytes.
 #[repr(C)]
@@ -43,7 +43,8 @@ pub struct Sizes {
     pub progress: u32,
 }
 
-pub fn sizes_of_structs() -> Sizes
+#[no_mangle]
+pub extern "C" fn uart_sizes_of_structs() -> Sizes
     ensures { λ r. ⌜ r ≡ sizes ⌝ }
 {
     Sizes {
@@ -59,7 +60,8 @@ pub fn sizes_of_structs() -> Sizes
 }
 
 // The state: fields 1..33.
-pub fn specimen_state() -> State
+#[no_mangle]
+pub extern "C" fn uart_specimen_state() -> State
     ensures { λ r. ⌜ r ≡ stateSpecimen ⌝ }
 {
     let e = Entry {
@@ -117,7 +119,8 @@ pub fn specimen_state() -> State
     }
 }
 
-pub fn specimen_looked() -> Looked
+#[no_mangle]
+pub extern "C" fn uart_specimen_looked() -> Looked
     ensures { λ r. ⌜ r ≡ lookedSpecimen ⌝ }
 {
     Looked {
@@ -133,7 +136,8 @@ pub fn specimen_looked() -> Looked
     }
 }
 
-pub fn specimen_forecasted() -> Forecasted
+#[no_mangle]
+pub extern "C" fn uart_specimen_forecasted() -> Forecasted
     ensures { λ r. ⌜ r ≡ forecastedSpecimen ⌝ }
 {
     Forecasted {
@@ -142,7 +146,8 @@ pub fn specimen_forecasted() -> Forecasted
     }
 }
 
-pub fn specimen_leveled() -> Leveled
+#[no_mangle]
+pub extern "C" fn uart_specimen_leveled() -> Leveled
     ensures { λ r. ⌜ r ≡ leveledSpecimen ⌝ }
 {
     Leveled {
@@ -151,26 +156,28 @@ pub fn specimen_leveled() -> Leveled
     }
 }
 
-pub fn specimen_answer() -> Answer
+#[no_mangle]
+pub extern "C" fn uart_specimen_answer() -> Answer
     ensures { λ r. ⌜ r ≡ answerSpecimen ⌝ }
 {
-    let looked = specimen_looked();
+    let looked = uart_specimen_looked();
     let outputs = looked.outputs;
     Answer {
         number: 100,
         byte: 101,
         outputs,
-        state: specimen_state(),
+        state: uart_specimen_state(),
     }
 }
 
-pub fn specimen_ran() -> Ran
+#[no_mangle]
+pub extern "C" fn uart_specimen_ran() -> Ran
     ensures { λ r. ⌜ r ≡ ranSpecimen ⌝ }
 {
     Ran {
         number: 100,
         used: 0x65656565,
-        state: specimen_state(),
+        state: uart_specimen_state(),
     }
 }
 
@@ -185,16 +192,18 @@ fn specimen_values() -> Values
     }
 }
 
-pub fn specimen_replayed() -> Replay
+#[no_mangle]
+pub extern "C" fn uart_specimen_replayed() -> Replay
     ensures { λ r. ⌜ r ≡ replayedSpecimen ⌝ }
 {
     Replay {
         values: specimen_values(),
-        state: specimen_state(),
+        state: uart_specimen_state(),
     }
 }
 
-pub fn specimen_progress() -> Progress
+#[no_mangle]
+pub extern "C" fn uart_specimen_progress() -> Progress
     ensures { λ r. ⌜ r ≡ progressSpecimen ⌝ }
 {
     Progress {
@@ -202,6 +211,6 @@ pub fn specimen_progress() -> Progress
         stopped: 111,
         done: 0x7070707070707070,
         values: specimen_values(),
-        state: specimen_state(),
+        state: uart_specimen_state(),
     }
 }

@@ -14,7 +14,7 @@ use Rattle.device.specs.declared.Ran.{Ran}
 use Rattle.capture.specs.declared.Values.{Values}
 use Rattle.client.specs.declared.Replay.{Replay}
 use Rattle.client.specs.declared.file.Progress.{Progress}
-use Rattle.layout.specs.declared.Sizes.{Sizes}
+use Rattle.export.specs.declared.layout.Sizes.{Sizes}
 
 -- The bytes that a value takes, and what its place is a multiple of.
 pub record Shape : Type 0 where
