@@ -26,7 +26,7 @@ static const char help[] =
     "\n"
     "agreed                      every read saw what the model answers\n"
     "differs PLACE SEEN MODEL    the first read that did not, counted from 0\n"
-    "refused NUMBER PLACE        6 no capture, 7 unknown version, 8 bad record\n"
+    "refused NUMBER PLACE        6 no capture, 7 unknown version, 8 bad record, or cut off\n"
     "\n"
     "The exit status is 0 whatever the answers are, or 2 where an argument is unknown, or\n"
     "reading or writing failed: then standard error says so, and there is no line.\n";
