@@ -7,7 +7,7 @@ use Rattle.device.specs.State.{freshOf}
 use Rattle.device.specs.Fifo.{capacity, triggerLevel}
 use Rattle.device.specs.Modem.{effectiveLevels, changesAfter}
 use Rattle.device.specs.Autoflow.{autoflow, autoRts, held, settledChanges, settledHold, settledLatches, settled}
-use Rattle.device.specs.Ranges.{wellFormed}
+use Rattle.device.specs.Ranges.{wellFormed, partOf}
 use Rattle.device.specs.Rbr.{rbrRead}
 use Rattle.device.specs.Thr.{thrWrite}
 use Rattle.device.specs.Ier.{ierWrite}
@@ -24,7 +24,7 @@ use Rattle.device.specs.Forecast.{noClock, heldBack, forecastNumber, for
 use Rattle.device.specs.Rows.{Rows}
 
 pub rows : Rows
-unfolding stopPulses frameLength ones parityBit pulsesLeft ticksLeft isFull countPut placesPut noBytes putByte byteRest noEntries entryRest entryFlags entryErrors freshOf capacity triggerLevel effectiveLevels changesAfter autoflow autoRts held settledChanges settledHold settledLatches settled wellFormed rbrRead thrWrite ierWrite lineStatus dataAvailable timeOut thrEmpty modemStatus interruptCode fifoCode iirRead fifoAfter switched clearReceive clearTransmit fcrWrite lcrWrite mcrWrite temt lsr clearErrors lsrRead withLevels msrRead scrWrite divisorLowWrite divisorHighWrite readRegister writeRegister done readOf writeOf modemOf noClock heldBack forecastNumber forecastOf
+unfolding stopPulses frameLength ones parityBit pulsesLeft ticksLeft isFull countPut placesPut noBytes putByte byteRest noEntries entryRest entryFlags entryErrors freshOf capacity triggerLevel effectiveLevels changesAfter autoflow autoRts held settledChanges settledHold settledLatches settled wellFormed partOf rbrRead thrWrite ierWrite lineStatus dataAvailable timeOut thrEmpty modemStatus interruptCode fifoCode iirRead fifoAfter switched clearReceive clearTransmit fcrWrite lcrWrite mcrWrite temt lsr clearErrors lsrRead withLevels msrRead scrWrite divisorLowWrite divisorHighWrite readRegister writeRegister done readOf writeOf modemOf noClock heldBack forecastNumber forecastOf
 rows =
     record {
       row1-lsr = refl;

@@ -1,6 +1,6 @@
 -- The calls and the numbers that they answer (document 01, "Numbers answered" and "Registers"): 0 done; 1 state not
 -- well formed; 2 register address above 7; 3 SIN above 1 or modem pins above 15. Lowest number first. A refusal hands
--- the state back as it was, every other result 0.
+-- the state back as it was, every other result 0; beside number 1 stands the part that is bad (document 02 b).
 use Prim.Native.Nat.{ℕ, zero, suc}
 use mathlib.Core.Bool.{cond}
 use lib.Dec.{leb, eqb}
@@ -9,7 +9,7 @@ use Rattle.device.specs.declared.Answer.{Answer}
 use Rattle.device.specs.declared.Looked.{Looked}
 use Rattle.device.specs.declared.State.{State}
 use Rattle.device.specs.State.{withInputs, resetState}
-use Rattle.device.specs.Ranges.{wellFormed}
+use Rattle.device.specs.Ranges.{wellFormed, partOf}
 use Rattle.device.specs.Autoflow.{settled}
 use Rattle.device.specs.Rbr.{seen, rbrRead}
 use Rattle.device.specs.Thr.{thrWrite}
@@ -62,33 +62,37 @@ writeRegister s a b =
 unfoldable pub done : State → ℕ → Answer
 done s b =
     let t = settled s in
-    record { number = 0; byte = b; outputs = outputs t; state = t }
+    record { number = 0; part = 0; byte = b; outputs = outputs t; state = t }
 
--- the answer of a refusal
-abbrev pub refused : ℕ → State → Answer
-refused n s = record { number = n; byte = 0; outputs = noOutputs; state = s }
+-- the answer of a refusal with number n, where part p of the state is bad
+abbrev pub refused : ℕ → ℕ → State → Answer
+refused n p s = record { number = n; part = p; byte = 0; outputs = noOutputs; state = s }
+
+-- the answer for a state that is not well formed
+abbrev pub malformed : State → Answer
+malformed s = refused 1 (partOf s) s
 
 -- reset
 unfoldable pub resetOf : State → Answer
-resetOf s = cond (wellFormed s) (done (resetState s) 0) (refused 1 s)
+resetOf s = cond (wellFormed s) (done (resetState s) 0) (malformed s)
 
 -- a register read
 unfoldable pub readOf : State → ℕ → Answer
 readOf s a =
     cond (wellFormed s)
-    (cond (leb a 7) (done (readRegister s a .state) (readRegister s a .byte)) (refused 2 s))
-    (refused 1 s)
+    (cond (leb a 7) (done (readRegister s a .state) (readRegister s a .byte)) (refused 2 0 s))
+    (malformed s)
 
 -- a register write
 unfoldable pub writeOf : State → ℕ → ℕ → Answer
-writeOf s a b = cond (wellFormed s) (cond (leb a 7) (done (writeRegister s a b) 0) (refused 2 s)) (refused 1 s)
+writeOf s a b = cond (wellFormed s) (cond (leb a 7) (done (writeRegister s a b) 0) (refused 2 0 s)) (malformed s)
 
 -- SIN at a level
 unfoldable pub sinOf : State → ℕ → Answer
 sinOf s v =
     cond (wellFormed s)
-    (cond (leb v 1) (done (withInputs s (record { modem = s .inputs .modem; sin = v })) 0) (refused 3 s))
-    (refused 1 s)
+    (cond (leb v 1) (done (withInputs s (record { modem = s .inputs .modem; sin = v })) 0) (refused 3 0 s))
+    (malformed s)
 
 -- modem pins at their levels; a change of the effective levels counts
 unfoldable pub modemOf : State → ℕ → Answer
@@ -96,12 +100,12 @@ modemOf s v =
     cond (wellFormed s)
     (cond (leb v 15)
     (done (withLevels s (withInputs s (record { modem = v; sin = s .inputs .sin }))) 0)
-    (refused 3 s))
-    (refused 1 s)
+    (refused 3 0 s))
+    (malformed s)
 
 -- one tick
 unfoldable pub tickOf : State → Answer
-tickOf s = cond (wellFormed s) (done (ticked s) 0) (refused 1 s)
+tickOf s = cond (wellFormed s) (done (ticked s) 0) (malformed s)
 
 -- t ticks, the first on the state given, each later one on what the last returned
 abbrev pub ticksOf : ℕ → State → State
@@ -112,10 +116,12 @@ ticksOf (suc t) s = ticksOf t (tickOf s .state)
 unfoldable pub ticksAnswer : State → ℕ → Answer
 ticksAnswer s n =
     cond (wellFormed s)
-    (record { number = 0; byte = 0; outputs = outputs (ticksOf n s); state = ticksOf n s })
-    (refused 1 s)
+    (record { number = 0; part = 0; byte = 0; outputs = outputs (ticksOf n s); state = ticksOf n s })
+    (malformed s)
 
--- the pins as they are; those of a malformed state are all 0 with number 1
+-- the pins as they are; those of a malformed state are all 0 with number 1 and its part
 unfoldable pub pinsOf : State → Looked
 pinsOf s =
-    cond (wellFormed s) (record { number = 0; outputs = outputs s }) (record { number = 1; outputs = noOutputs })
+    cond (wellFormed s)
+    (record { number = 0; part = 0; outputs = outputs s })
+    (record { number = 1; part = partOf s; outputs = noOutputs })

@@ -13,7 +13,7 @@ use Rattle.device.specs.declared.Forecasted.{Forecasted}
 use Rattle.device.specs.declared.Leveled.{Leveled}
 use Rattle.device.specs.declared.Ran.{Ran}
 use Rattle.device.specs.Autoflow.{held}
-use Rattle.device.specs.Ranges.{wellFormed}
+use Rattle.device.specs.Ranges.{wellFormed, partOf}
 use Rattle.device.specs.Lsr.{temt}
 use Rattle.device.specs.Transmitter.{line}
 use Rattle.device.specs.Calls.{tickOf, ticksOf}
@@ -48,19 +48,19 @@ heldBack s = ltb 0 (s .tx .count) && held (s .registers) (s .fifo) (s .inputs)
 unfoldable pub forecastNumber : State → ℕ
 forecastNumber s = cond (wellFormed s) (cond (noClock s) 4 (cond (heldBack s) 5 0)) 1
 
--- the forecast: T
+-- the forecast: T. Beside a refusal's number stands the part that is bad (document 02 b), which is 0 with 4 and 5
 unfoldable pub forecastOf : State → Forecasted
 forecastOf s =
     cond (eqb (forecastNumber s) 0)
-    (record { number = 0; ticks = ticksToCome s })
-    (record { number = forecastNumber s; ticks = 0 })
+    (record { number = 0; part = 0; ticks = ticksToCome s })
+    (record { number = forecastNumber s; part = partOf s; ticks = 0 })
 
 -- the line's level after t ticks; the same refusals
 unfoldable pub levelOf : State → ℕ → Leveled
 levelOf s t =
     cond (eqb (forecastNumber s) 0)
-    (record { number = 0; level = levelToCome s t })
-    (record { number = forecastNumber s; level = 0 })
+    (record { number = 0; part = 0; level = levelToCome s t })
+    (record { number = forecastNumber s; part = partOf s; level = 0 })
 
 -- the ticks that run uses of at most n: the smaller of n and T, or n where the forecast gives 4 or 5
 unfoldable pub usedOf : State → ℕ → ℕ
@@ -70,8 +70,8 @@ usedOf s n = cond (eqb (forecastNumber s) 0) (min n (ticksToCome s)) n
 unfoldable pub runOf : State → ℕ → Ran
 runOf s n =
     cond (wellFormed s)
-    (record { number = 0; used = usedOf s n; state = ticksOf (usedOf s n) s })
-    (record { number = 1; used = 0; state = s })
+    (record { number = 0; part = 0; used = usedOf s n; state = ticksOf (usedOf s n) s })
+    (record { number = 1; part = partOf s; used = 0; state = s })
 
 -- Demand 3: what the forecast T of s says of t ticks, each on the state that the last one returned. The next tick
 -- isn't refused; queue and shift register are both empty (TEMT) exactly when t is at least T; the transmitter's line

@@ -1,11 +1,11 @@
--- A well-formed state obeys these ranges; any other is refused (document 01, "The state"). They come in five groups; a
--- range that joins two groups stands in the later one. That an array has 64 places and a byte is below 256 is what the
--- types of src/lib.rt say, and no range.
+-- A well-formed state obeys these ranges; any other is refused (document 01, "The state"). They come in the five parts
+-- of document 02 b); a range that joins two parts stands in the later one. That an array has 64 places and a byte is
+-- below 256 is what the types of src/lib.rt say, and no range.
 use Prim.Native.Nat.{ℕ, _-_, _^_, min}
 use mathlib.Core.Bool.{Bool, cond, not, _&&_, _||_}
 use mathlib.Core.List.{List, [], _∷_, _++_}
 use lib.Dec.{leb, ltb, eqb}
-use Rattle.flag.specs.Flag.{on, bit, every, implies}
+use Rattle.flag.specs.Flag.{on, bit, every, implies, firstFailing}
 use Rattle.frame.specs.Format.{dataBits, parityBits, frameLength}
 use Rattle.queue.specs.declared.ByteQueue.{ByteQueue}
 use Rattle.queue.specs.declared.EntryQueue.{EntryQueue}
@@ -23,7 +23,7 @@ use Rattle.device.specs.Fifo.{capacity, triggerLevel}
 use Rattle.device.specs.Autoflow.{autoflow, autoRts}
 use Rattle.device.specs.Receiver.{stopPosition, samplesTaken}
 
--- Group 1: registers, divisor and k.
+-- Part 1: registers, divisor and k.
 abbrev pub registerRanges : Registers → Baud → List Bool
 registerRanges r b =
     leb (r .ier) 63  -- IER 0..63
@@ -34,7 +34,7 @@ registerRanges r b =
     ∷ cond (eqb (b .divisor) 0) (eqb (b .k) 0) (leb 1 (b .k) && leb (b .k) (b .divisor))  -- k: 0 if D = 0, else 1..D
     ∷ []
 
--- Group 2: FIFO settings and pins.
+-- Part 2: FIFO settings and pins.
 abbrev pub settingRanges : FifoControl → Inputs → List Bool
 settingRanges f i =
     leb (f .enabled) 1  -- FIFO on or off
@@ -45,7 +45,7 @@ settingRanges f i =
     ∷ leb (i .sin) 1  -- SIN 0 or 1
     ∷ []
 
--- Group 3: transmit queue and frame.
+-- Part 3: transmit queue and frame.
 abbrev pub transmitRanges : FifoControl → ByteQueue → Frame → List Bool
 transmitRanges f q x =
     leb (q .count) (capacity f)  -- count within the capacity
@@ -69,7 +69,7 @@ characterRanges v =
 abbrev pub outsideRanges : Receiver → List Bool
 outsideRanges v = eqb (v .format) 0 ∷ eqb (v .position) 0 ∷ eqb (v .samples) 0 ∷ eqb (v .parity) 0 ∷ []
 
--- Group 4: receive queue and receiver.
+-- Part 4: receive queue and receiver.
 abbrev pub receiveRanges : FifoControl → EntryQueue → Receiver → List Bool
 receiveRanges f q v =
     leb (q .count) (capacity f)  -- count within the capacity
@@ -79,7 +79,7 @@ receiveRanges f q v =
     ∷ cond (eqb (v .phase) characterPhase) (every (characterRanges v)) (every (outsideRanges v))
     ∷ []
 
--- Group 5: latches, idle count, change bits, hold; m bytes are queued to transmit, n received.
+-- Part 5: latches, idle count, change bits, hold; m bytes are queued to transmit, n received.
 
 -- the latches of the queues and the idle count
 abbrev pub queueLatchRanges : FifoControl → ℕ → ℕ → Latches → List Bool
@@ -107,13 +107,20 @@ flowLatchRanges r f n l =
 abbrev pub latchRanges : Registers → FifoControl → ℕ → ℕ → Latches → List Bool
 latchRanges r f m n l = queueLatchRanges f m n l ++ flowLatchRanges r f n l
 
--- every range of every group holds
-unfoldable pub wellFormed : State → Bool
-wellFormed s =
-    every
-    (every (registerRanges (s .registers) (s .baud))
+-- the five parts in their order: whether every range of the part holds
+abbrev pub parts : State → List Bool
+parts s =
+    every (registerRanges (s .registers) (s .baud))
     ∷ every (settingRanges (s .fifo) (s .inputs))
     ∷ every (transmitRanges (s .fifo) (s .tx) (s .frame))
     ∷ every (receiveRanges (s .fifo) (s .rx) (s .receiver))
     ∷ every (latchRanges (s .registers) (s .fifo) (s .tx .count) (s .rx .count) (s .latches))
-    ∷ [])
+    ∷ []
+
+-- every range of every part holds
+unfoldable pub wellFormed : State → Bool
+wellFormed s = every (parts s)
+
+-- the part that is bad (document 02 b): the lowest that breaks a range; 0 exactly where the state is well formed
+unfoldable pub partOf : State → ℕ
+partOf s = firstFailing 1 (parts s)

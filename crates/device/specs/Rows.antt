@@ -31,7 +31,7 @@ sending lcr d k fifo n l =
 
 -- the forecast's number and T
 abbrev pub foretells : ℕ → ℕ → Forecasted
-foretells number ticks = record { number = number; ticks = ticks }
+foretells number ticks = record { number = number; part = 0; ticks = ticks }
 
 pub record Rows : Type 0 where
   -- 1 Fresh: LSR 60, IIR 01

@@ -208,10 +208,13 @@ pub struct Outputs {
     pub intrpt: u8,
 }
 
+// The answers. Beside number 1 stands the part of the state that is bad, beside every other number 0.
+
 // What the look at the pins answers.
 #[repr(C)]
 pub struct Looked {
     pub number: u8,
+    pub part: u8,
     pub outputs: Outputs,
 }
 
@@ -219,6 +222,7 @@ pub struct Looked {
 #[repr(C)]
 pub struct Forecasted {
     pub number: u8,
+    pub part: u8,
     pub ticks: u32,
 }
 
@@ -226,6 +230,7 @@ pub struct Forecasted {
 #[repr(C)]
 pub struct Leveled {
     pub number: u8,
+    pub part: u8,
     pub level: u8,
 }
 
@@ -233,6 +238,7 @@ pub struct Leveled {
 #[repr(C)]
 pub struct Ran {
     pub number: u8,
+    pub part: u8,
     pub used: u32,
     pub state: State,
 }
@@ -241,6 +247,7 @@ pub struct Ran {
 #[repr(C)]
 pub struct Answer {
     pub number: u8,
+    pub part: u8,
     pub byte: u8,
     pub outputs: Outputs,
     pub state: State,

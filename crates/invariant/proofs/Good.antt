@@ -1,4 +1,4 @@
--- What the ranges of a well-formed state say, as plain facts: a record for each group of ranges, and laws both ways.
+-- What the ranges of a well-formed state say, as plain facts: a record for each part's ranges, and laws both ways.
 use Prim.Native.Nat.{ℕ, _-_, _/_, _%_, _^_, min, _≤_, _<_}
 use mathlib.Core.Path.{_≡_}
 use mathlib.Core.Bool.{Bool, true, false, cond, not, _&&_, _||_}
@@ -26,7 +26,7 @@ use Rattle.device.specs.State.{withEmpty, withOverrun, withTimeout, withChanges
 use Rattle.device.specs.Fifo.{capacity, byCode, triggerLevel}
 use Rattle.device.specs.Autoflow.{autoflow, autoRts}
 use Rattle.device.specs.Receiver.{stopPosition, samplesTaken}
-use Rattle.device.specs.Ranges.{registerRanges, settingRanges, transmitRanges, characterRanges, outsideRanges, receiveRanges, latchRanges, wellFormed}
+use Rattle.device.specs.Ranges.{registerRanges, settingRanges, transmitRanges, characterRanges, outsideRanges, receiveRanges, latchRanges, parts, wellFormed}
 use Rattle.invariant.proofs.Tests.{end, _&_, all-hold, implies-holds, holds-implies, picked-yes, picked-no, or-left, or-right, or-either, false-not}
 
 -- bit 0 of x is clear where x is even
@@ -36,7 +36,7 @@ even-of x e = omega (arith, eqb-false (x / 2 ^ 0 % 2) 1 (not-true (bit 0 x) e))
 of-even : (x : ℕ) → x % 2 ≡ 0 → not (bit 0 x) ≡ true
 of-even x h = false-not (bit 0 x) (ne-eqb (x / 2 ^ 0 % 2) 1 (omega arith))
 
--- Group 1: registers, divisor and k.
+-- Part 1: registers, divisor and k.
 
 pub record RegisterFacts (r : Registers) (b : Baud) : Type 0 where
   pub ier-most : r .ier ≤ 63
@@ -84,7 +84,7 @@ of-registers r b g =
     & of-k (b .divisor) (b .k) (g .k-most) (g .k-least)
     & end)
 
--- Group 2: FIFO settings and pins.
+-- Part 2: FIFO settings and pins.
 
 pub record SettingFacts (f : FifoControl) (i : Inputs) : Type 0 where
   pub enabled-most : f .enabled ≤ 1
@@ -102,7 +102,7 @@ settings-of f i w =
 pub of-settings : (f : FifoControl) (i : Inputs) → SettingFacts f i → every (settingRanges f i) ≡ true
 of-settings f i g = of-each (settingRanges f i) (omega (arith, le-leb))
 
--- Group 3: transmit queue and frame.
+-- Part 3: transmit queue and frame.
 
 pub record FrameFacts (x : Frame) : Type 0 where
   pub left-most : x .left ≤ frameLength (x .format)
@@ -158,7 +158,7 @@ of-transmit f q x g =
     & of-none (x .left) (x .byte) (x .format) (y .byte-none) (y .format-none)
     & end)
 
--- Group 4: receive queue and receiver.
+-- Part 4: receive queue and receiver.
 
 -- in a character at position P: P is below the stop position; data and parity not yet sampled are zero
 pub record CharacterFacts (v : Receiver) : Type 0 where
@@ -231,7 +231,7 @@ of-receive f q v g =
         (λ e. of-character v (g .receiver .character (eqb-true (v .phase) 2 e)))
         (λ e. of-outside v (g .receiver .outside (eqb-false (v .phase) 2 e)))
 
--- Group 5: latches, idle count, change bits, hold; m bytes are queued to transmit, n received.
+-- Part 5: latches, idle count, change bits, hold; m bytes are queued to transmit, n received.
 
 -- the transmit-empty latch e: only with an empty queue
 pub record EmptyFacts (m e : ℕ) : Type 0 where
@@ -388,20 +388,10 @@ pub record Good (s : State) : Type 0 where
   pub latches : LatchFacts (s .fifo) (s .tx .count) (s .rx .count) (s .latches)
   pub flow : FlowFacts (s .registers) (s .fifo) (s .rx .count) (s .latches)
 
--- the five groups, as tested
-abbrev groups : State → List Bool
-groups s =
-    every (registerRanges (s .registers) (s .baud))
-    ∷ every (settingRanges (s .fifo) (s .inputs))
-    ∷ every (transmitRanges (s .fifo) (s .tx) (s .frame))
-    ∷ every (receiveRanges (s .fifo) (s .rx) (s .receiver))
-    ∷ every (latchRanges (s .registers) (s .fifo) (s .tx .count) (s .rx .count) (s .latches))
-    ∷ []
-
 pub good-of : (s : State) → wellFormed s ≡ true → Good s
 unfolding wellFormed
 good-of s w =
-    let e = each-of (groups s) w in
+    let e = each-of (parts s) w in
     record {
       registers = registers-of _ _ (e .0);
       settings = settings-of _ _ (e .1 .0);

@@ -26,8 +26,8 @@ use Rattle.device.specs.Rbr.{restartIdle}
 use Rattle.invariant.proofs.Good.{RegisterFacts, SettingFacts, FrameFacts, TransmitFacts, ReceiverFacts, ReceiveFacts, LatchFacts, capacity-bounds, latches-wait}
 use Rattle.invariant.proofs.Settled.{Sound}
 
--- The parts of one group put in place of others that keep its ranges; with a queue go the latches that depend on its
--- count. A part that stays is the state's own.
+-- One part's fields put in place of others that keep its ranges; with a queue go the latches that depend on its
+-- count. What stays is the state's own.
 
 module _ {s : State} (w : Sound s) where
   pub sound-registers : (r : Registers) (b : Baud) → RegisterFacts r b → Sound (withBaud (withRegisters s r) b)

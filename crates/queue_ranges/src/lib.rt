@@ -1,4 +1,4 @@
-// The ranges of the queues, of the frame now sent and of the receiver: groups 3 and 4 of `Ranges.antt`.
+// The ranges of the queues, of the frame now sent and of the receiver: parts 3 and 4 of `Ranges.antt`.
 use device::FifoControl;
 use device::Frame;
 use device::Receiver;
@@ -23,7 +23,7 @@ fn frame_in_range(x: Frame) -> bool
     implies(x.left == 0, both(x.byte == 0, x.format == 0))
 }
 
-// Group 3: transmit queue and frame.
+// Part 3: transmit queue and frame.
 pub fn transmit_in_range(f: FifoControl, q: ByteQueue, x: Frame) -> bool
     ensures { λ t. ⌜ t ≡ every (transmitRanges f q x) ⌝ }
 {
@@ -100,7 +100,7 @@ fn receiver_in_range(v: Receiver) -> bool
     outside_in_range(v)
 }
 
-// Group 4: receive queue and receiver.
+// Part 4: receive queue and receiver.
 pub fn receive_in_range(f: FifoControl, q: EntryQueue, v: Receiver) -> bool
     ensures { λ t. ⌜ t ≡ every (receiveRanges f q v) ⌝ }
 {

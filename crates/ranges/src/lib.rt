@@ -1,5 +1,5 @@
-// The ranges of a well-formed state, a function for each of the five groups of `Ranges.antt`; those of
-// groups 3 and 4 stand in `queue_ranges`.
+// The ranges of a well-formed state, a function for each of the five parts of `Ranges.antt`; those of
+// parts 3 and 4 stand in `queue_ranges`.
 use device::Baud;
 use device::FifoControl;
 use device::Inputs;
@@ -15,11 +15,12 @@ use queue_ranges::receive_in_range;
 use queue_ranges::transmit_in_range;
 use sheet::bits;
 use sheet::limits;
+use sheet::part;
 ghost use mathlib.Core.Path.{_≡_};
 ghost use mathlib.Core.Bool.{cond, _&&_};
 ghost use lib.Dec.{leb, eqb};
 ghost use Rattle.flag.specs.Flag.{every};
-ghost use Rattle.device.specs.Ranges.{registerRanges, settingRanges, latchRanges, queueLatchRanges, flowLatchRanges, wellFormed};
+ghost use Rattle.device.specs.Ranges.{registerRanges, settingRanges, latchRanges, queueLatchRanges, flowLatchRanges, wellFormed, partOf};
 
 // k is 0 if the divisor is, else 1 up to the divisor.
 fn k_in_range(b: Baud) -> bool
@@ -32,7 +33,7 @@ fn k_in_range(b: Baud) -> bool
     both(1 <= k, k <= b.divisor)
 }
 
-// Group 1: registers, divisor and k.
+// Part 1: registers, divisor and k.
 pub fn registers_in_range(r: Registers, b: Baud) -> bool
     ensures { λ t. ⌜ t ≡ every (registerRanges r b) ⌝ }
 {
@@ -45,7 +46,7 @@ pub fn registers_in_range(r: Registers, b: Baud) -> bool
     )
 }
 
-// Group 2: FIFO settings and pins.
+// Part 2: FIFO settings and pins.
 pub fn settings_in_range(f: FifoControl, i: Inputs) -> bool
     ensures { λ t. ⌜ t ≡ every (settingRanges f i) ⌝ }
 {
@@ -115,7 +116,7 @@ fn flow_latches_in_range(r: Registers, f: FifoControl, n: u32, l: Latches) -> bo
     )
 }
 
-// Group 5: latches, idle count, change bits, hold.
+// Part 5: latches, idle count, change bits, hold.
 pub fn latches_in_range(r: Registers, f: FifoControl, m: u32, n: u32, l: Latches) -> bool
     ensures { λ t. ⌜ t ≡ every (latchRanges r f m n l) ⌝ }
 {
@@ -125,9 +126,10 @@ pub fn latches_in_range(r: Registers, f: FifoControl, m: u32, n: u32, l: Latches
     )
 }
 
-// Whether the state is well formed.
-pub fn well_formed(s: State) -> bool
-    ensures { λ t. ⌜ t ≡ wellFormed s ⌝ }
+// The lowest part of the state that breaks a range; 0 exactly where the state is well formed.
+pub fn part_of(s: State) -> u8
+    ensures lowest { λ p. ⌜ p ≡ partOf s ⌝ }
+    ensures none { λ p. ⌜ wellFormed s ≡ eqb p 0 ⌝ }
 {
     let r = s.registers;
     let b = s.baud;
@@ -138,17 +140,20 @@ pub fn well_formed(s: State) -> bool
     let rx = s.rx;
     let v = s.receiver;
     let l = s.latches;
-    both(
-        registers_in_range(r, b),
-        both(
-            settings_in_range(f, i),
-            both(
-                transmit_in_range(f, tx, x),
-                both(
-                    receive_in_range(f, rx, v),
-                    latches_in_range(r, f, tx.count, rx.count, l),
-                ),
-            ),
-        ),
-    )
+    if !registers_in_range(r, b) {
+        return part::REGISTERS;
+    }
+    if !settings_in_range(f, i) {
+        return part::SETTINGS;
+    }
+    if !transmit_in_range(f, tx, x) {
+        return part::TRANSMIT;
+    }
+    if !receive_in_range(f, rx, v) {
+        return part::RECEIVE;
+    }
+    if !latches_in_range(r, f, tx.count, rx.count, l) {
+        return part::LATCHES;
+    }
+    part::NONE
 }
