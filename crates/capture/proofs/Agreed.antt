@@ -17,7 +17,7 @@ use Rattle.capture.specs.Replay.{stepsOf, modelByte, differing, replayFr
 use Rattle.recorded.proofs.Laws.{step-kept}
 use Rattle.capture.proofs.Ways.{each-way}
 
-pub not-refused : {number place : ℕ} → Outcome.Refused number place ≡ Outcome.Agreed → ⊥
+pub not-refused : {number part place : ℕ} → Outcome.Refused number part place ≡ Outcome.Agreed → ⊥
 not-refused e = false≢true (ap agreeing e)
 
 not-differs : {place seen model : ℕ} → Outcome.Differs place seen model ≡ Outcome.Agreed → ⊥

@@ -8,14 +8,14 @@ use lib.ListN.{length, getD}
 use Rattle.recorder.specs.Record.{byte, good, isRead}
 use Rattle.recorder.specs.File.{known}
 use Rattle.device.specs.declared.State.{State}
-use Rattle.device.specs.Ranges.{wellFormed}
+use Rattle.device.specs.Ranges.{wellFormed, partOf}
 use Rattle.recorded.specs.Record.{stepOf}
 use Rattle.capture.specs.declared.Outcome.{Outcome}
 use Rattle.capture.specs.declared.Replayed.{Replayed}
 use Rattle.capture.specs.declared.Values.{Values}
 
 -- The answers: the state with "agreed", with the place, the byte seen and the model's byte, or with the number of a
--- refusal and its place.
+-- refusal, the part of the state that is bad (document 02 b) and the place.
 
 abbrev pub agreed : State → Replayed
 agreed s = record { state = s; outcome = Outcome.Agreed }
@@ -24,19 +24,24 @@ abbrev pub differs : State → ℕ → ℕ → ℕ → Replayed
 differs s place seen model = record { state = s; outcome = Outcome.Differs place seen model }
 
 abbrev pub refused : ℕ → State → ℕ → Replayed
-refused number s place = record { state = s; outcome = Outcome.Refused number place }
+refused number s place = record { state = s; outcome = Outcome.Refused number 0 place }
+
+-- a state that is not well formed
+abbrev pub malformed : State → Replayed
+malformed s = record { state = s; outcome = Outcome.Refused 1 (partOf s) 0 }
 
 -- nothing has differed or been refused
 abbrev pub agreeing : Outcome → Bool
 agreeing Outcome.Agreed = true
 agreeing (Outcome.Differs place seen model) = false
-agreeing (Outcome.Refused number place) = false
+agreeing (Outcome.Refused number part place) = false
 
 -- document 01's number and values for each outcome: 0 where nothing is refused, and 0 for what is not named
 abbrev pub valuesOf : Outcome → Values
-valuesOf Outcome.Agreed = record { number = 0; place = 0; seen = 0; model = 0 }
-valuesOf (Outcome.Differs place seen model) = record { number = 0; place = place; seen = seen; model = model }
-valuesOf (Outcome.Refused number place) = record { number = number; place = place; seen = 0; model = 0 }
+valuesOf Outcome.Agreed = record { number = 0; part = 0; place = 0; seen = 0; model = 0 }
+valuesOf (Outcome.Differs place seen model) = record { number = 0; part = 0; place = place; seen = seen; model = model }
+valuesOf (Outcome.Refused number part place) =
+    record { number = number; part = part; place = place; seen = 0; model = 0 }
 
 -- the byte that the model answers at a read
 abbrev pub modelByte : State → ℕ → ℕ
@@ -58,7 +63,7 @@ replayFrom place s (w ∷ ws) =
 -- replay of records of a version: 1 for a state that is not well formed, then 7 for an unknown version
 unfoldable pub replayOf : ℕ → State → List ℕ → Replayed
 replayOf version s ws =
-    cond (wellFormed s) (cond (known version) (replayFrom 0 s ws) (refused 7 s 0)) (refused 1 s 0)
+    cond (wellFormed s) (cond (known version) (replayFrom 0 s ws) (refused 7 s 0)) (malformed s)
 
 -- Where a replay stops.
 

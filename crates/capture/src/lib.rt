@@ -2,10 +2,11 @@
 //
 // The definitions that the contracts cite stand in `specs/Replay.antt`.
 use device::State;
-use ranges::well_formed;
+use ranges::part_of;
 use recorder::file;
 use recorder::record;
 use sheet::answer;
+use sheet::part::NONE;
 ghost use mathlib.Core.Path.{_≡_};
 ghost use mathlib.Core.Bool.{true, not, _&&_};
 ghost use lib.Dec.{eqb};
@@ -13,17 +14,19 @@ ghost use Rattle.device.specs.Ranges.{wellFormed};
 ghost use Rattle.recorder.specs.Record.{isRead, byte as «byte-of»};
 ghost use Rattle.capture.specs.Replay.{goodAt, stoppedAt, refused as «refused-at», valuesOf, replayFrom, replayOf, Agrees};
 
-// How a replay ended: every read agreed, one differs, or a refusal.
+// How a replay ended: every read agreed, one differs, or a refusal, of a state that is not well formed
+// with its part that is bad.
 pub enum Outcome {
     Agreed,
     Differs { place: usize, seen: u8, model: u8 },
-    Refused { number: u8, place: usize },
+    Refused { number: u8, part: u8, place: usize },
 }
 
 // An outcome as document 01's number and values.
 #[repr(C)]
 pub struct Values {
     pub number: u8,
+    pub part: u8,
     pub seen: u8,
     pub model: u8,
     pub place: usize,
@@ -42,18 +45,25 @@ pub fn values_of(o: Outcome) -> Values
     match o {
         Outcome::Agreed => Values {
             number: 0,
+            part: 0,
             seen: 0,
             model: 0,
             place: 0,
         },
         Outcome::Differs { place, seen, model } => Values {
             number: 0,
+            part: 0,
             seen,
             model,
             place,
         },
-        Outcome::Refused { number, place } => Values {
+        Outcome::Refused {
             number,
+            part,
+            place,
+        } => Values {
+            number,
+            part,
             seen: 0,
             model: 0,
             place,
@@ -67,7 +77,11 @@ pub fn refused(number: u8, s: State, place: usize) -> Replayed
 {
     Replayed {
         state: s,
-        outcome: Outcome::Refused { number, place },
+        outcome: Outcome::Refused {
+            number,
+            part: NONE,
+            place,
+        },
     }
 }
 
@@ -167,8 +181,16 @@ pub fn replay(s: State, version: u32, records: &[u32]) -> Replayed
     ensures { λ r. ⌜ r ≡ replayOf version s (now (records .entry)) ⌝ }
     ensures { λ r. ⌜ (r .outcome ≡ Outcome.Agreed → Agrees s (now (records .entry)) (r .state)) ⌝ }
 {
-    if !well_formed(s) {
-        return refused(answer::MALFORMED, s, 0);
+    let part = part_of(s);
+    if part != NONE {
+        return Replayed {
+            state: s,
+            outcome: Outcome::Refused {
+                number: answer::MALFORMED,
+                part,
+                place: 0,
+            },
+        };
     }
     if !file::known(version) {
         return refused(answer::UNKNOWN_VERSION, s, 0);

@@ -1,28 +1,44 @@
 // The calls that foretell: when the transmitter will be empty, which level its line will have, and
 // ticks until it is empty. Each takes any state and any argument, looks at the state first, and
-// refuses by number what document 01's table refuses.
+// refuses by number what document 01's table refuses; beside number 1 stands the part of the state
+// that is bad.
 //
 // A contract equates the whole answer with a definition of the device's `specs/Forecast.antt`.
 use device::Forecasted;
 use device::Leveled;
 use device::Ran;
 use device::State;
-use ranges::well_formed;
+use ranges::part_of;
 use sheet::answer;
+use sheet::part::NONE;
 ghost use mathlib.Core.Path.{_≡_};
 ghost use Prim.Native.Nat.{ℕ, _≤_};
+ghost use Rattle.device.specs.Ranges.{partOf};
 ghost use Rattle.device.specs.Calls.{ticksOf};
 ghost use Rattle.device.specs.Transmitter.{line};
 ghost use Rattle.device.specs.Forecast.{forecastNumber, forecastOf, levelOf, runOf, Foretold, StopsInTime};
 
-// The number that the forecast answers.
-fn forecast_number(s: State) -> u8
-    ensures { λ r. ⌜ r ≡ forecastNumber s ⌝ }
+// The number that the forecast answers, and the part of the state that is bad.
+struct Refusal {
+    number: u8,
+    part: u8,
+}
+
+fn refused(s: State) -> Refusal
+    ensures { λ r. ⌜ r .number ≡ forecastNumber s ⌝ }
+    ensures { λ r. ⌜ r .part ≡ partOf s ⌝ }
 {
-    if !well_formed(s) {
-        return answer::MALFORMED;
+    let part = part_of(s);
+    if part != NONE {
+        return Refusal {
+            number: answer::MALFORMED,
+            part,
+        };
     }
-    forecast::number(s)
+    Refusal {
+        number: forecast::number(s),
+        part,
+    }
 }
 
 // The forecast: the ticks until queue and shift register are both empty. Whatever number of ticks
@@ -33,12 +49,18 @@ pub fn forecast(s: State) -> Forecasted
     ensures every_tick { λ r. ⌜ (r .number ≡ 0 → (t : ℕ) → Foretold s (r .ticks) t) ⌝ }
     ensures at_most { λ r. ⌜ r .ticks ≤ 817876800 ⌝ }
 {
-    let number = forecast_number(s);
+    let why = refused(s);
+    let number = why.number;
     if number != answer::DONE {
-        return Forecasted { number, ticks: 0 };
+        return Forecasted {
+            number,
+            part: why.part,
+            ticks: 0,
+        };
     }
     Forecasted {
         number: answer::DONE,
+        part: NONE,
         ticks: forecast::ticks_to_come(s),
     }
 }
@@ -48,12 +70,18 @@ pub fn level(s: State, t: u32) -> Leveled
     ensures outcome { λ r. ⌜ r ≡ levelOf s t ⌝ }
     ensures ticked { λ r. ⌜ (r .number ≡ 0 → r .level ≡ line (ticksOf t s .frame)) ⌝ }
 {
-    let number = forecast_number(s);
+    let why = refused(s);
+    let number = why.number;
     if number != answer::DONE {
-        return Leveled { number, level: 0 };
+        return Leveled {
+            number,
+            part: why.part,
+            level: 0,
+        };
     }
     Leveled {
         number: answer::DONE,
+        part: NONE,
         level: forecast::level_after(s, t),
     }
 }
@@ -63,9 +91,11 @@ pub fn run(s: State, n: u32) -> Ran
     ensures outcome { λ r. ⌜ r ≡ runOf s n ⌝ }
     ensures in_time { λ r. ⌜ (r .number ≡ 0 → StopsInTime s n (r .used)) ⌝ }
 {
-    if !well_formed(s) {
+    let part = part_of(s);
+    if part != NONE {
         return Ran {
             number: answer::MALFORMED,
+            part,
             used: 0,
             state: s,
         };
@@ -73,6 +103,7 @@ pub fn run(s: State, n: u32) -> Ran
     let used = forecast::used(s, n);
     Ran {
         number: answer::DONE,
+        part: NONE,
         used,
         state: clock::advance(s, used),
     }

@@ -6,11 +6,11 @@ use Rattle.device.specs.declared.State.{State}
 use Rattle.device.specs.Ranges.{wellFormed}
 use Rattle.device.specs.Tick.{ticked}
 use Rattle.device.specs.Pins.{outputs}
-use Rattle.device.specs.Calls.{done, refused, tickOf, ticksAnswer}
+use Rattle.device.specs.Calls.{done, malformed, tickOf, ticksAnswer}
 
 -- the answer of a step that leaves t and reads nothing
 abbrev answered : State → Answer
-answered t = record { number = 0; byte = 0; outputs = outputs t; state = t }
+answered t = record { number = 0; part = 0; byte = 0; outputs = outputs t; state = t }
 
 tick-answered : (s : State) → wellFormed s ≡ true → answered (tickOf s .state) ≡ tickOf s
 unfolding tickOf done
@@ -18,7 +18,7 @@ tick-answered s w =
     let same : tickOf s ≡ done (ticked s) 0 = simp w in
     ap (λ (r : Answer). answered (r .state)) same ∙ sym same
 
-tick-refused : (s : State) → wellFormed s ≡ false → refused 1 s ≡ tickOf s
+tick-refused : (s : State) → wellFormed s ≡ false → malformed s ≡ tickOf s
 unfolding tickOf
 tick-refused s w = simp w
 

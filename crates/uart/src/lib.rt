@@ -1,6 +1,7 @@
 // The UART: the calls that its users make; those that foretell when the line falls quiet are in the
 // crate `foretell`. Each takes any state and any argument, looks at the state first, and refuses by
-// number what document 01's table refuses, handing the state back.
+// number what document 01's table refuses, handing the state back; beside number 1 the part of the
+// state that is bad.
 //
 // A contract equates the whole answer with a definition in the device's specs: of `Calls.antt`, for
 // the fresh state of `State.antt`.
@@ -9,9 +10,10 @@ use device::Looked;
 use device::Outputs;
 use device::State;
 use interrupts::pins::outputs;
-use ranges::well_formed;
+use ranges::part_of;
 use sheet::answer;
 use sheet::limits;
+use sheet::part::NONE;
 ghost use mathlib.Core.Path.{_≡_};
 ghost use lib.Dec.{leb};
 ghost use Rattle.device.specs.State.{freshOf};
@@ -32,12 +34,13 @@ fn no_outputs() -> Outputs
     }
 }
 
-// The answer of a refusal: the state as it was.
-fn refused(number: u8, s: State) -> Answer
-    ensures { λ r. ⌜ r ≡ «refused-of» number s ⌝ }
+// The answer of a refusal, where this part of the state is bad: the state as it was.
+fn refused(number: u8, part: u8, s: State) -> Answer
+    ensures { λ r. ⌜ r ≡ «refused-of» number part s ⌝ }
 {
     Answer {
         number,
+        part,
         byte: 0,
         outputs: no_outputs(),
         state: s,
@@ -46,11 +49,12 @@ fn refused(number: u8, s: State) -> Answer
 
 // The answer of a step that left this state: the pins are those after it.
 fn answered(t: State, byte: u8) -> Answer
-    ensures { λ r. ⌜ r ≡ record { number = 0; byte = byte; outputs = «outputs-of» t; state = t } ⌝ }
+    ensures { λ r. ⌜ r ≡ record { number = 0; part = 0; byte = byte; outputs = «outputs-of» t; state = t } ⌝ }
 {
     let number = answer::DONE;
     Answer {
         number,
+        part: NONE,
         byte,
         outputs: outputs(t),
         state: t,
@@ -75,8 +79,9 @@ pub fn fresh() -> State
 pub fn reset(s: State) -> Answer
     ensures { λ r. ⌜ r ≡ resetOf s ⌝ }
 {
-    if !well_formed(s) {
-        return refused(answer::MALFORMED, s);
+    let part = part_of(s);
+    if part != NONE {
+        return refused(answer::MALFORMED, part, s);
     }
     answered(step::reset(s), 0)
 }
@@ -85,11 +90,12 @@ pub fn reset(s: State) -> Answer
 pub fn read(s: State, address: u8) -> Answer
     ensures { λ r. ⌜ r ≡ readOf s address ⌝ }
 {
-    if !well_formed(s) {
-        return refused(answer::MALFORMED, s);
+    let part = part_of(s);
+    if part != NONE {
+        return refused(answer::MALFORMED, part, s);
     }
     if !is_register(address) {
-        return refused(answer::BAD_ADDRESS, s);
+        return refused(answer::BAD_ADDRESS, NONE, s);
     }
     let r = step::read(s, address);
     let t = r.state;
@@ -100,11 +106,12 @@ pub fn read(s: State, address: u8) -> Answer
 pub fn write(s: State, address: u8, byte: u8) -> Answer
     ensures { λ r. ⌜ r ≡ writeOf s address byte ⌝ }
 {
-    if !well_formed(s) {
-        return refused(answer::MALFORMED, s);
+    let part = part_of(s);
+    if part != NONE {
+        return refused(answer::MALFORMED, part, s);
     }
     if !is_register(address) {
-        return refused(answer::BAD_ADDRESS, s);
+        return refused(answer::BAD_ADDRESS, NONE, s);
     }
     answered(step::write(s, address, byte), 0)
 }
@@ -113,11 +120,12 @@ pub fn write(s: State, address: u8, byte: u8) -> Answer
 pub fn set_sin(s: State, level: u8) -> Answer
     ensures { λ r. ⌜ r ≡ sinOf s level ⌝ }
 {
-    if !well_formed(s) {
-        return refused(answer::MALFORMED, s);
+    let part = part_of(s);
+    if part != NONE {
+        return refused(answer::MALFORMED, part, s);
     }
     if limits::SIN_MOST < level {
-        return refused(answer::BAD_LEVEL, s);
+        return refused(answer::BAD_LEVEL, NONE, s);
     }
     answered(step::set_sin(s, level), 0)
 }
@@ -126,11 +134,12 @@ pub fn set_sin(s: State, level: u8) -> Answer
 pub fn set_modem(s: State, levels: u8) -> Answer
     ensures { λ r. ⌜ r ≡ modemOf s levels ⌝ }
 {
-    if !well_formed(s) {
-        return refused(answer::MALFORMED, s);
+    let part = part_of(s);
+    if part != NONE {
+        return refused(answer::MALFORMED, part, s);
     }
     if limits::MODEM_MOST < levels {
-        return refused(answer::BAD_LEVEL, s);
+        return refused(answer::BAD_LEVEL, NONE, s);
     }
     answered(step::set_modem(s, levels), 0)
 }
@@ -146,8 +155,9 @@ pub fn tick(s: State) -> Answer
 pub fn ticks(s: State, n: u32) -> Answer
     ensures { λ r. ⌜ r ≡ ticksAnswer s n ⌝ }
 {
-    if !well_formed(s) {
-        return refused(answer::MALFORMED, s);
+    let part = part_of(s);
+    if part != NONE {
+        return refused(answer::MALFORMED, part, s);
     }
     answered(clock::advance(s, n), 0)
 }
@@ -156,14 +166,17 @@ pub fn ticks(s: State, n: u32) -> Answer
 pub fn pins(s: State) -> Looked
     ensures { λ r. ⌜ r ≡ pinsOf s ⌝ }
 {
-    if !well_formed(s) {
+    let part = part_of(s);
+    if part != NONE {
         return Looked {
             number: answer::MALFORMED,
+            part,
             outputs: no_outputs(),
         };
     }
     Looked {
         number: answer::DONE,
+        part: NONE,
         outputs: outputs(s),
     }
 }

@@ -14,26 +14,26 @@ use Rattle.foretell.proofs.forecast.Tie as tie
 kept : (c : tie.Start) → forecastNumber (c .args .s) ≡ 0 → Kept (c .args .s)
 kept c e = record { well = forecast-well (c .args .s) e; places = record { bytes-long = search needs; entries-long = search (length-mapped, needs) } }
 
-forecast-number-requires : tie.Need-forecast-number-requires
-forecast-number-requires c κs = search needs
+refused-requires : tie.Need-refused-requires
+refused-requires c κs = search needs
 
 returns : tie.Need-returns
 unfolding forecastOf
 returns c =
     let s = c .before .before .args .s in
-    let same = c .before .forecast-number .ensures in
+    let same = c .before .refused .ensures .0 in
     let some : forecastNumber s ≡ 0 → ⊥ = λ e. c .if1 .taken (same ∙ e) in
-    (rw same (simp (ne-eqb _ _ some)), ((λ e. absurd (c .if1 .taken e)), omega arith))
+    (rw (same, c .before .refused .ensures .1) (simp (ne-eqb _ _ some)), ((λ e. absurd (c .if1 .taken e)), omega arith))
 
 ticks-to-come-requires : tie.Need-ticks-to-come-requires
-ticks-to-come-requires c κs = sym (c .before .forecast-number .ensures) ∙ c .if1 .left
+ticks-to-come-requires c κs = sym (c .before .refused .ensures .0) ∙ c .if1 .left
 
 returns-2 : tie.Need-returns-2
 unfolding forecastOf
 returns-2 c =
-    let none = sym (c .before .before .forecast-number .ensures) ∙ c .before .if1 .left in
+    let none = sym (c .before .before .refused .ensures .0) ∙ c .before .if1 .left in
     (rw (c .ticks-to-come .ensures) (simp (eq-eqb _ _ none)), ((λ _ t. rw (c .ticks-to-come .ensures) (foretold _ (kept (c .before .before .before) none) none t)), rw (c .ticks-to-come .ensures) (forecast-most (c .before .before .before .args .s) none)))
 
 pub forecast-spec : {M : Type 1} → statement M
 forecast-spec =
-    tie.close (tie.spec forecast-number-requires returns ticks-to-come-requires returns-2)
+    tie.close (tie.spec refused-requires returns ticks-to-come-requires returns-2)

@@ -6,31 +6,31 @@ use borrow.Author.Needs.{needs}
 use Rattle.foretell.proofs.level.Statement.{statement}
 use Rattle.foretell.proofs.level.Tie as tie
 
-forecast-number-requires : tie.Need-forecast-number-requires
-forecast-number-requires c κs = search needs
+refused-requires : tie.Need-refused-requires
+refused-requires c κs = search needs
 
 returns : tie.Need-returns
 unfolding levelOf
 returns c =
     let s = c .before .before .args .s in
-    let same = c .before .forecast-number .ensures in
+    let same = c .before .refused .ensures .0 in
     let some : forecastNumber s ≡ 0 → ⊥ = λ e. c .if1 .taken (same ∙ e) in
-    (rw same (simp (ne-eqb _ _ some)), λ e. absurd (c .if1 .taken e))
+    (rw (same, c .before .refused .ensures .1) (simp (ne-eqb _ _ some)), λ e. absurd (c .if1 .taken e))
 
 level-after-requires : tie.Need-level-after-requires
-level-after-requires c κs = sym (c .before .forecast-number .ensures) ∙ c .if1 .left
+level-after-requires c κs = sym (c .before .refused .ensures .0) ∙ c .if1 .left
 
 returns-2 : tie.Need-returns-2
 unfolding levelOf
 returns-2 c =
-    let none = sym (c .before .before .forecast-number .ensures) ∙ c .before .if1 .left in
+    let none = sym (c .before .before .refused .ensures .0) ∙ c .before .if1 .left in
     (rw (c .level-after .ensures .0) (simp (eq-eqb _ _ none)), λ _. c .level-after .ensures .1)
 
 pub level-spec : {M : Type 1} → statement M
 level-spec =
     tie.close
     (tie.spec
-    forecast-number-requires
+    refused-requires
     returns
     level-after-requires
     returns-2)

@@ -1,27 +1,27 @@
 -- The rows of the table in their order: 1, 3, or done.
 use Rattle.device.specs.Calls.{done, modemOf}
 use mathlib.Core.Path.{sym, _∙_}
-use borrow.Author.Tests.{le-leb, lt-leb, not-true, not-false}
+use borrow.Author.Tests.{eq-eqb, ne-eqb, lt-leb, le-leb}
 use borrow.Author.Needs.{needs}
 use Rattle.uart.proofs.set_modem.Statement.{statement}
 use Rattle.uart.proofs.set_modem.Tie as tie
 
-well-formed-requires : tie.Need-well-formed-requires
-well-formed-requires c κs = search needs
+part-of-requires : tie.Need-part-of-requires
+part-of-requires c κs = search needs
 
 refused-requires : tie.Need-refused-requires
 refused-requires c κs = search needs
 
 returns : tie.Need-returns
 unfolding modemOf
-returns c = rw (c .refused .ensures) (simp (sym (c .before .before .well-formed .ensures) ∙ not-true _ (c .before .if1 .taken)))
+returns c = rw (c .refused .ensures, c .before .before .part-of .ensures .0) (simp (c .before .before .part-of .ensures .1 ∙ ne-eqb _ _ (c .before .if1 .taken)))
 
 refused-requires-2 : tie.Need-refused-requires-2
 refused-requires-2 c κs = search needs
 
 returns-2 : tie.Need-returns-2
 unfolding modemOf
-returns-2 c = rw (c .refused2 .ensures) (simp (sym (c .before .before .before .well-formed .ensures) ∙ not-false _ (c .before .before .if1 .left), lt-leb _ _ (c .before .if2 .taken)))
+returns-2 c = rw (c .refused2 .ensures) (simp (c .before .before .before .part-of .ensures .1 ∙ eq-eqb _ _ (c .before .before .if1 .left), lt-leb _ _ (c .before .if2 .taken)))
 
 set-modem-requires : tie.Need-set-modem-requires
 set-modem-requires c κs = search needs
@@ -31,13 +31,13 @@ answered-requires c κs = search needs
 
 returns-3 : tie.Need-returns-3
 unfolding modemOf done
-returns-3 c = rw (c .answered .ensures, c .before .set-modem .ensures) (simp (sym (c .before .before .before .before .well-formed .ensures) ∙ not-false _ (c .before .before .before .if1 .left), le-leb _ _ (c .before .before .if2 .left)))
+returns-3 c = rw (c .answered .ensures, c .before .set-modem .ensures) (simp (c .before .before .before .before .part-of .ensures .1 ∙ eq-eqb _ _ (c .before .before .before .if1 .left), le-leb _ _ (c .before .before .if2 .left)))
 
 pub set-modem-spec : {M : Type 1} → statement M
 set-modem-spec =
     tie.close
     (tie.spec
-    well-formed-requires
+    part-of-requires
     refused-requires
     returns
     refused-requires-2
