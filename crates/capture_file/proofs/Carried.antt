@@ -106,17 +106,17 @@ module _ (version : ℕ) (s : State) (a b : List ℕ) (well : agreeing (replayOf
 later-later : (m n : ℕ) (o : Outcome) → later m (later n o) ≡ later (m + n) o
 later-later m n Outcome.Agreed = refl
 later-later m n (Outcome.Differs place seen model) = ap (λ (x : ℕ). Outcome.Differs x seen model) (omega arith)
-later-later m n (Outcome.Refused number place) = ap (λ (x : ℕ). Outcome.Refused number x) (omega arith)
+later-later m n (Outcome.Refused number part place) = ap (λ (x : ℕ). Outcome.Refused number part x) (omega arith)
 
 later-none : (o : Outcome) → later 0 o ≡ o
 later-none Outcome.Agreed = refl
 later-none (Outcome.Differs place seen model) = ap (λ (x : ℕ). Outcome.Differs x seen model) (omega arith)
-later-none (Outcome.Refused number place) = ap (λ (x : ℕ). Outcome.Refused number x) (omega arith)
+later-none (Outcome.Refused number part place) = ap (λ (x : ℕ). Outcome.Refused number part x) (omega arith)
 
 pub later-agreeing : (n : ℕ) (o : Outcome) → agreeing (later n o) ≡ agreeing o
 later-agreeing n Outcome.Agreed = refl
 later-agreeing n (Outcome.Differs place seen model) = refl
-later-agreeing n (Outcome.Refused number place) = refl
+later-agreeing n (Outcome.Refused number part place) = refl
 
 onward-onward : (m n : ℕ) (r : Replayed) → onward m (onward n r) ≡ onward (m + n) r
 onward-onward m n r = ap (λ (o : Outcome). record { state = r .state; outcome = o }) (later-later m n (r .outcome))
@@ -211,7 +211,7 @@ place-within version s ws = go (wellFormed s) (known version) refl refl
 pub is-agreed : (o : Outcome) → agreeing o ≡ true → o ≡ Outcome.Agreed
 is-agreed Outcome.Agreed e = refl
 is-agreed (Outcome.Differs place seen model) e = absurd (false≢true e)
-is-agreed (Outcome.Refused number place) e = absurd (false≢true e)
+is-agreed (Outcome.Refused number part place) e = absurd (false≢true e)
 
 module _ (p : Progress) (go-on : agreeing (p .replayed .outcome) ≡ true) (r : Ready p) where
   -- fewer than four bytes hold no record

@@ -41,7 +41,7 @@ captureOf bytes = headedOf (wordsOf (take 8 bytes)) (drop 8 bytes)
 abbrev pub later : ℕ → Outcome → Outcome
 later n Outcome.Agreed = Outcome.Agreed
 later n (Outcome.Differs place seen model) = Outcome.Differs (n + place) seen model
-later n (Outcome.Refused number place) = Outcome.Refused number (n + place)
+later n (Outcome.Refused number part place) = Outcome.Refused number part (n + place)
 
 abbrev pub onward : ℕ → Replayed → Replayed
 onward n r = record { state = r .state; outcome = later n (r .outcome) }

@@ -51,7 +51,18 @@ fn onward(n: usize, r: Replayed) -> Replayed
                 model,
             },
         },
-        Outcome::Refused { number, place } => refused(number, state, n + place),
+        Outcome::Refused {
+            number,
+            part,
+            place,
+        } => Replayed {
+            state,
+            outcome: Outcome::Refused {
+                number,
+                part,
+                place: n + place,
+            },
+        },
     }
 }
 

@@ -13,7 +13,7 @@ use Rattle.device.specs.State.{freshOf}
 use Rattle.device.specs.declared.State.{State}
 use Rattle.device.specs.Ranges.{wellFormed}
 use Rattle.capture.specs.declared.Outcome.{Outcome}
-use Rattle.capture.specs.Replay.{refused, modelByte, differing, replayFrom, replayOf}
+use Rattle.capture.specs.Replay.{refused, malformed, modelByte, differing, replayFrom, replayOf}
 use Rattle.capture.specs.Replay.{agreeing}
 use Rattle.capture_file.specs.File.{later, onward, ended, recordsOf, headedOf, captureOf, restOf}
 use Rattle.capture.specs.declared.Replayed.{Replayed}
@@ -46,7 +46,7 @@ pub replay-told : (version : ℕ) (s : State) (ws : List ℕ) → Told (replayOf
 unfolding replayOf
 replay-told version s ws = go (wellFormed s) (known version)
   where
-    go : (w k : Bool) → Told (cond w (cond k (replayFrom 0 s ws) (refused 7 s 0)) (refused 1 s 0) .outcome)
+    go : (w k : Bool) → Told (cond w (cond k (replayFrom 0 s ws) (refused 7 s 0)) (malformed s) .outcome)
     go true true = records-told ws 0 s
     go true false = λ z e. absurd (omega (arith, z))
     go false k = λ z e. absurd (omega (arith, z))
@@ -56,17 +56,17 @@ replay-told version s ws = go (wellFormed s) (known version)
 later-told : (n : ℕ) (o : Outcome) → Told o → Told (later n o)
 later-told n Outcome.Agreed t = λ z e. refl
 later-told n (Outcome.Differs place seen model) t = λ z e. ap (later n) (t z e)
-later-told n (Outcome.Refused number place) t = λ z e. ap (later n) (t z e)
+later-told n (Outcome.Refused number part place) t = λ z e. ap (later n) (t z e)
 
-pub refused-told : (number place : ℕ) → 0 < number → Told (Outcome.Refused number place)
-refused-told number place h = λ z e. absurd (omega (arith, z, h))
+pub refused-told : (number part place : ℕ) → 0 < number → Told (Outcome.Refused number part place)
+refused-told number part place h = λ z e. absurd (omega (arith, z, h))
 
 ended-told : (bytes : List ℕ) (r : Replayed) → Told (r .outcome) → Told (ended bytes r .outcome)
 unfolding ended
 ended-told bytes r t = go (agreeing (r .outcome) && not (eqb (length bytes % 4) 0))
   where
     go : (b : Bool) → Told (cond b (refused 8 (r .state) (length bytes / 4)) r .outcome)
-    go true = refused-told 8 (length bytes / 4) (omega arith)
+    go true = refused-told 8 0 (length bytes / 4) (omega arith)
     go false = t
 
 records-of-told : (version : ℕ) (s : State) (bytes : List ℕ) → Told (recordsOf version s bytes .outcome)
@@ -79,11 +79,11 @@ capture-told bytes = go (wordsOf (take 8 bytes))
   where
     test : (b : Bool) (v : ℕ) → Told (cond b (recordsOf (version v) freshOf (drop 8 bytes)) (refused 6 freshOf 0) .outcome)
     test true v = records-of-told (version v) freshOf (drop 8 bytes)
-    test false v = refused-told 6 0 (omega arith)
+    test false v = refused-told 6 0 0 (omega arith)
 
     go : (ws : List ℕ) → Told (headedOf ws (drop 8 bytes) .outcome)
-    go [] = refused-told 8 0 (omega arith)
-    go (w ∷ []) = refused-told 8 0 (omega arith)
+    go [] = refused-told 8 0 0 (omega arith)
+    go (w ∷ []) = refused-told 8 0 0 (omega arith)
     go (w ∷ v ∷ ws) = test (goodHeader w v) v
 
 pub rest-told : (p : Progress) (bytes : List ℕ) → Told (p .replayed .outcome) → Told (restOf p bytes .outcome)

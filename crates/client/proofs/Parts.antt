@@ -21,7 +21,7 @@ use Rattle.client.specs.File.{stoppedBy, outcomeOf, carriedOf, handedOf,
 same-outcome : (o : Outcome) → outcomeOf (stoppedBy o) (valuesOf o) ≡ o
 same-outcome Outcome.Agreed = refl
 same-outcome (Outcome.Differs place seen model) = refl
-same-outcome (Outcome.Refused number place) = refl
+same-outcome (Outcome.Refused number part place) = refl
 
 -- what is handed out comes back as it was
 pub carried-again : (p : Progress) → carriedOf (handedOf p) ≡ p
@@ -51,7 +51,7 @@ hands-on p r q₀ q l m er ep e =
 -- and so does what a client is told.
 
 pub beyond-told : (p r : Carried) → r ≡ beyondOf p → ToldSoFar r
-beyond-told p r e = subst (λ (x : Carried). ToldSoFar x) (sym e) (refused-told 1 0 (omega arith))
+beyond-told p r e = subst (λ (x : Carried). ToldSoFar x) (sym e) (refused-told 1 0 0 (omega arith))
 
 pub more-told : (p r : Carried) (q₀ q : Progress) (l m : List ℕ) → r ≡ handedOf q → q₀ ≡ carriedOf p → restOf q l ≡ restOf q₀ m → ToldSoFar p → ToldSoFar r
 more-told p r q₀ q l m er ep e t =

@@ -16,13 +16,15 @@ use Rattle.client.specs.Replay.{replayAnswer, Told}
 abbrev pub stoppedBy : Outcome → ℕ
 stoppedBy Outcome.Agreed = 0
 stoppedBy (Outcome.Differs place seen model) = 1
-stoppedBy (Outcome.Refused number place) = 2
+stoppedBy (Outcome.Refused number part place) = 2
 
 -- the outcome of such a number and the values with it
 abbrev pub outcomeOf : ℕ → Values → Outcome
 outcomeOf stopped v =
     cond (eqb stopped 0) Outcome.Agreed
-    (cond (eqb stopped 1) (Outcome.Differs (v .place) (v .seen) (v .model)) (Outcome.Refused (v .number) (v .place)))
+    (cond (eqb stopped 1)
+    (Outcome.Differs (v .place) (v .seen) (v .model))
+    (Outcome.Refused (v .number) (v .part) (v .place)))
 
 -- a client's progress as `capture_file` has it, and back
 
@@ -48,7 +50,7 @@ handedOf p =
 abbrev pub ToldSoFar : Progress → Type 0
 ToldSoFar p = Told (carriedOf p .replayed .outcome)
 
--- a file of more records than 2^62: refused with 1 at place 0, the state as it was
+-- a file of more records than 2^62: refused with 1 at place 0, the state as it was, of which no part is bad
 abbrev pub beyondOf : Progress → Progress
 beyondOf p = handedOf (record { version = p .version; place = p .done; replayed = refused 1 (p .state) 0 })
 

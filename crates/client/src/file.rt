@@ -7,6 +7,7 @@ use capture::Replayed;
 use capture::Values;
 use device::State;
 use sheet::answer;
+use sheet::part::NONE;
 ghost use mathlib.Core.Path.{_≡_};
 ghost use mathlib.Core.List.{List, [], _++_};
 ghost use Prim.Native.Nat.{ℕ, _+_, _*_, _/_, _≤_, _<_, _^_};
@@ -61,6 +62,7 @@ fn outcome_of(stopped: u8, v: Values) -> Outcome
     }
     Outcome::Refused {
         number: v.number,
+        part: v.part,
         place,
     }
 }
@@ -124,6 +126,7 @@ fn refused(p: Progress) -> Progress
         done: p.done,
         values: Values {
             number: answer::MALFORMED,
+            part: NONE,
             seen: 0,
             model: 0,
             place: 0,

@@ -97,22 +97,22 @@ abbrev pub outputsShape : Shape
 outputsShape = structOf (byte ∷ byte ∷ byte ∷ byte ∷ byte ∷ byte ∷ [])
 
 abbrev pub answerShape : Shape
-answerShape = structOf (byte ∷ byte ∷ outputsShape ∷ stateShape ∷ [])
+answerShape = structOf (byte ∷ byte ∷ byte ∷ outputsShape ∷ stateShape ∷ [])
 
 abbrev pub lookedShape : Shape
-lookedShape = structOf (byte ∷ outputsShape ∷ [])
+lookedShape = structOf (byte ∷ byte ∷ outputsShape ∷ [])
 
 abbrev pub forecastedShape : Shape
-forecastedShape = structOf (byte ∷ word ∷ [])
+forecastedShape = structOf (byte ∷ byte ∷ word ∷ [])
 
 abbrev pub leveledShape : Shape
-leveledShape = structOf (byte ∷ byte ∷ [])
+leveledShape = structOf (byte ∷ byte ∷ byte ∷ [])
 
 abbrev pub ranShape : Shape
-ranShape = structOf (byte ∷ word ∷ stateShape ∷ [])
+ranShape = structOf (byte ∷ byte ∷ word ∷ stateShape ∷ [])
 
 abbrev pub valuesShape : Shape
-valuesShape = structOf (byte ∷ byte ∷ byte ∷ index ∷ [])
+valuesShape = structOf (byte ∷ byte ∷ byte ∷ byte ∷ index ∷ [])
 
 abbrev pub replayedShape : Shape
 replayedShape = structOf (valuesShape ∷ stateShape ∷ [])
@@ -165,22 +165,22 @@ abbrev pub outputsSpecimen : Outputs
 outputsSpecimen = record { sout = 102; rts = 103; dtr = 104; out1 = 105; out2 = 106; intrpt = 107 }
 
 abbrev pub lookedSpecimen : Looked
-lookedSpecimen = record { number = 100; outputs = outputsSpecimen }
+lookedSpecimen = record { number = 100; part = 113; outputs = outputsSpecimen }
 
 abbrev pub forecastedSpecimen : Forecasted
-forecastedSpecimen = record { number = 100; ticks = fourTimes 101 }
+forecastedSpecimen = record { number = 100; part = 113; ticks = fourTimes 101 }
 
 abbrev pub leveledSpecimen : Leveled
-leveledSpecimen = record { number = 100; level = 101 }
+leveledSpecimen = record { number = 100; part = 113; level = 101 }
 
 abbrev pub answerSpecimen : Answer
-answerSpecimen = record { number = 100; byte = 101; outputs = outputsSpecimen; state = stateSpecimen }
+answerSpecimen = record { number = 100; part = 113; byte = 101; outputs = outputsSpecimen; state = stateSpecimen }
 
 abbrev pub ranSpecimen : Ran
-ranSpecimen = record { number = 100; used = fourTimes 101; state = stateSpecimen }
+ranSpecimen = record { number = 100; part = 113; used = fourTimes 101; state = stateSpecimen }
 
 abbrev pub valuesSpecimen : Values
-valuesSpecimen = record { number = 100; seen = 101; model = 108; place = eightTimes 109 }
+valuesSpecimen = record { number = 100; part = 113; seen = 101; model = 108; place = eightTimes 109 }
 
 abbrev pub replayedSpecimen : Replay
 replayedSpecimen = record { values = valuesSpecimen; state = stateSpecimen }

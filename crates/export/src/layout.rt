@@ -6,7 +6,8 @@
 // The state's fields are numbered from 1 in the order of declaration, those of the answers from 100:
 // the number answered is field 100; the byte, the ticks, the level, the ticks used and a replay's byte
 // seen are field 101; the output pins are fields 102..107; a replay's byte of the model is field 108,
-// its place field 109; a file's version, what stopped it and the records done are fields 110..112.
+// its place field 109; a file's version, what stopped it and the records done are fields 110..112; the
+// part of the state that is bad is field 113.
 use capture::Values;
 use client::Replay;
 use client::file::Progress;
@@ -49,10 +50,10 @@ pub extern "C" fn uart_sizes_of_structs() -> Sizes
 {
     Sizes {
         state: 376,
-        answer: 384,
-        looked: 7,
+        answer: 388,
+        looked: 8,
         forecasted: 8,
-        leveled: 2,
+        leveled: 3,
         ran: 384,
         replayed: 392,
         progress: 408,
@@ -125,6 +126,7 @@ pub extern "C" fn uart_specimen_looked() -> Looked
 {
     Looked {
         number: 100,
+        part: 113,
         outputs: Outputs {
             sout: 102,
             rts: 103,
@@ -142,6 +144,7 @@ pub extern "C" fn uart_specimen_forecasted() -> Forecasted
 {
     Forecasted {
         number: 100,
+        part: 113,
         ticks: 0x65656565,
     }
 }
@@ -152,6 +155,7 @@ pub extern "C" fn uart_specimen_leveled() -> Leveled
 {
     Leveled {
         number: 100,
+        part: 113,
         level: 101,
     }
 }
@@ -164,6 +168,7 @@ pub extern "C" fn uart_specimen_answer() -> Answer
     let outputs = looked.outputs;
     Answer {
         number: 100,
+        part: 113,
         byte: 101,
         outputs,
         state: uart_specimen_state(),
@@ -176,6 +181,7 @@ pub extern "C" fn uart_specimen_ran() -> Ran
 {
     Ran {
         number: 100,
+        part: 113,
         used: 0x65656565,
         state: uart_specimen_state(),
     }
@@ -186,6 +192,7 @@ fn specimen_values() -> Values
 {
     Values {
         number: 100,
+        part: 113,
         seen: 101,
         model: 108,
         place: 0x6d6d6d6d6d6d6d6d,

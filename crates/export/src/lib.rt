@@ -37,16 +37,16 @@ pub struct Versions {
     pub layout: u32,
 }
 
-// Which library this is: 0.2.0, with the first layout that is numbered.
+// Which library this is: 0.3.0, with the second layout.
 #[no_mangle]
 pub extern "C" fn uart_version() -> Versions
-    ensures { λ r. ⌜ r ≡ record { major = 0; minor = 2; patch = 0; layout = 1 } ⌝ }
+    ensures { λ r. ⌜ r ≡ record { major = 0; minor = 3; patch = 0; layout = 2 } ⌝ }
 {
     Versions {
         major: 0,
-        minor: 2,
+        minor: 3,
         patch: 0,
-        layout: 1,
+        layout: 2,
     }
 }
 

@@ -17,4 +17,4 @@ refusedLine number place = text "refused " ++ (wordOf number 32 ++ wordOf place 
 unfoldable pub outcomeLine : Outcome → List ℕ
 outcomeLine Outcome.Agreed = text "agreed\n"
 outcomeLine (Outcome.Differs place seen model) = differsLine place seen model
-outcomeLine (Outcome.Refused number place) = refusedLine number place
+outcomeLine (Outcome.Refused number part place) = refusedLine number place

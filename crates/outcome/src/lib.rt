@@ -36,6 +36,6 @@ pub fn put_outcome(o: Outcome, out: &mut [u8], at: usize) -> usize
     match o {
         Outcome::Agreed => buffer::put(b"agreed\n", out, at),
         Outcome::Differs { place, seen, model } => put_differs(place, seen, model, out, at),
-        Outcome::Refused { number, place } => put_refused(number, place, out, at),
+        Outcome::Refused { number, place, .. } => put_refused(number, place, out, at),
     }
 }

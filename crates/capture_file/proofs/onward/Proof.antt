@@ -14,19 +14,16 @@ enum-told c = search needs
 enum-known-o : tie.Need-enum-known-o
 enum-known-o c = search needs
 
-add-t11 : tie.Need-add-t11
-add-t11 c =
+add-t12 : tie.Need-add-t12
+add-t12 c =
     let e = ap (λ (o : Outcome). valuesOf o .place) (c .before .o .given .1) in omega (arith, e, c .before .before .before .before .pre)
 
 enum-known-o-2 : tie.Need-enum-known-o-2
 enum-known-o-2 c = search needs
 
-add-refused : tie.Need-add-refused
-add-refused c =
+add-t14 : tie.Need-add-t14
+add-t14 c =
     let e = ap (λ (o : Outcome). valuesOf o .place) (c .before .o2 .given .1) in omega (arith, e, c .before .before .before .before .pre)
-
-refused-requires : tie.Need-refused-requires
-refused-requires c κs = search needs
 
 returns : tie.Need-returns
 returns c =
@@ -36,7 +33,7 @@ returns-2 : tie.Need-returns-2
 returns-2 c = ap (λ (o : Outcome). record { state = c .before .before .before .before .args .r .state; outcome = later (c .before .before .before .before .args .n) o }) (sym (c .before .o .given .1))
 
 returns-3 : tie.Need-returns-3
-returns-3 c = c .refused .ensures ∙ ap (λ (o : Outcome). record { state = c .before .before .before .before .before .args .r .state; outcome = later (c .before .before .before .before .before .args .n) o }) (sym (c .before .before .o2 .given .1))
+returns-3 c = ap (λ (o : Outcome). record { state = c .before .before .before .before .args .r .state; outcome = later (c .before .before .before .before .args .n) o }) (sym (c .before .o2 .given .1))
 
 pub onward-spec : {M : Type 1} → statement M
 onward-spec =
@@ -44,10 +41,9 @@ onward-spec =
     (tie.spec
     enum-told
     enum-known-o
-    add-t11
+    add-t12
     enum-known-o-2
-    add-refused
-    refused-requires
+    add-t14
     returns
     returns-2
     returns-3)
