@@ -6,9 +6,9 @@
  * replay see below.
  *
  * Every field is an unsigned number, so every bit pattern of a state is a value: it is well formed
- * or it is refused with UART_MALFORMED. So whatever memory a caller hands in, every call ends and
- * answers by number; no caller has to look first. Only the records and bytes of a replay are lent, by
- * address: as many as it says must stand there, whatever they are.
+ * or it is refused with UART_MALFORMED, and with the part of it that is bad. So whatever memory a caller
+ * hands in, every call ends and answers by number; no caller has to look first. Only the records and
+ * bytes of a replay are lent, by address: as many as it says must stand there, whatever they are.
  *
  * Padding, the bytes between fields, is no part of a state: it is not looked at and comes back as
  * anything. So states are compared by uart_equal, not by memcmp, and a hash goes over the fields.
@@ -36,9 +36,9 @@ extern "C" {
 
 /* The version that this header is of; UART_LAYOUT changes where a struct does. */
 #define UART_VERSION_MAJOR 0
-#define UART_VERSION_MINOR 2
+#define UART_VERSION_MINOR 3
 #define UART_VERSION_PATCH 0
-#define UART_LAYOUT 1
+#define UART_LAYOUT 2
 
 /* The numbers answered; where two apply, the lower. */
 #define UART_DONE 0
@@ -50,6 +50,16 @@ extern "C" {
 #define UART_BAD_HEADER 6      /* replay of a file: a bad mark or a nonzero pad */
 #define UART_UNKNOWN_VERSION 7 /* replay: an unknown version */
 #define UART_BAD_RECORD 8      /* replay: a record of bad kind, with stray bits, or cut off */
+
+/*
+ * `part` of an answer, beside UART_MALFORMED: the lowest part of the state that breaks a range, here with
+ * its fields. A range that joins two parts counts for the later one. It is 0 with every other number.
+ */
+#define UART_IN_REGISTERS 1   /* registers, baud: registers, divisor or k */
+#define UART_IN_SETTINGS 2    /* fifo, inputs: FIFO settings and pins */
+#define UART_IN_TRANSMITTER 3 /* tx, frame: transmit queue and frame */
+#define UART_IN_RECEIVER 4    /* rx, receiver: receive queue and receiver */
+#define UART_IN_LATCHES 5     /* latches: latches, OE, idle count, change bits and hold */
 
 /* Register addresses. With LCR bit 7 set, 0 and 1 are the divisor's low and high byte. */
 #define UART_RBR 0 /* read: receive buffer */
@@ -166,6 +176,7 @@ struct uart_outputs {
 /* What a step answers: the byte read, the pins after it, the next state. */
 struct uart_answer {
     uint8_t number;
+    uint8_t part;
     uint8_t byte;
     struct uart_outputs outputs;
     struct uart_state state;
@@ -174,31 +185,36 @@ struct uart_answer {
 /* What the look at the pins answers. */
 struct uart_looked {
     uint8_t number;
+    uint8_t part;
     struct uart_outputs outputs;
 };
 
 /* What the forecast answers: the ticks until queue and shift register are both empty. */
 struct uart_forecasted {
     uint8_t number;
+    uint8_t part;
     uint32_t ticks;
 };
 
 /* What the call for the line's level answers. */
 struct uart_leveled {
     uint8_t number;
+    uint8_t part;
     uint8_t level;
 };
 
 /* What run answers: the ticks used, and the state after them. */
 struct uart_ran {
     uint8_t number;
+    uint8_t part;
     uint32_t used;
     struct uart_state state;
 };
 
-/* How a replay ended: the number, the byte seen, the model's byte, the record's place. */
+/* How a replay ended: number and part, the byte seen, the model's byte, the record's place. */
 struct uart_values {
     uint8_t number;
+    uint8_t part;
     uint8_t seen;
     uint8_t model;
     size_t place;
@@ -282,7 +298,7 @@ struct uart_replayed uart_replay(struct uart_state s, uint32_t version, const ui
  *   version the state is then the fresh one;
  *   UART_BAD_RECORD at the number of whole records: one to three bytes are left.
  * Once `stopped` is not UART_GOING_ON, nothing that comes next changes the answer. A file of more than
- * 2^62 records is refused with UART_MALFORMED.
+ * 2^62 records is refused with UART_MALFORMED and part 0: no part of the state is bad.
  */
 struct uart_progress uart_replay_begin(const uint8_t *first, size_t count);
 struct uart_progress uart_replay_more(struct uart_progress p, const uint8_t *bytes, size_t count);
@@ -380,8 +396,9 @@ static inline int uart_replay_file(FILE *file, struct uart_replayed *answer, uar
  * The library's own layout: the size of each struct, and a specimen of each in which every byte of
  * a field is the field's number. The state's fields are numbered from 1 in the order above
  * (UART_STATE_FIELDS; an entry's are 18..21). The answers' own fields are numbered from 100: the
- * number answered is 100, the field after it 101, the output pins 102..107, the model's byte and the
- * place of a replay 108 and 109, a file's version, what stopped it and the records done 110..112.
+ * number answered is 100, the part beside it 113, the field after these 101, the output pins 102..107,
+ * the model's byte and the place of a replay 108 and 109, a file's version, what stopped it and the
+ * records done 110..112.
  */
 struct uart_sizes {
     uint32_t state;
@@ -451,38 +468,44 @@ UART_AT(uart_entry, pe, 1);
 UART_AT(uart_entry, fe, 2);
 UART_AT(uart_entry, bi, 3);
 
-UART_STATIC_ASSERT(sizeof(struct uart_answer) == 384, "uart_answer");
+UART_STATIC_ASSERT(sizeof(struct uart_answer) == 388, "uart_answer");
 UART_AT(uart_answer, number, 0);
-UART_AT(uart_answer, byte, 1);
-UART_AT(uart_answer, outputs.sout, 2);
-UART_AT(uart_answer, outputs.rts, 3);
-UART_AT(uart_answer, outputs.dtr, 4);
-UART_AT(uart_answer, outputs.out1, 5);
-UART_AT(uart_answer, outputs.out2, 6);
-UART_AT(uart_answer, outputs.intrpt, 7);
-UART_AT(uart_answer, state, 8);
+UART_AT(uart_answer, part, 1);
+UART_AT(uart_answer, byte, 2);
+UART_AT(uart_answer, outputs.sout, 3);
+UART_AT(uart_answer, outputs.rts, 4);
+UART_AT(uart_answer, outputs.dtr, 5);
+UART_AT(uart_answer, outputs.out1, 6);
+UART_AT(uart_answer, outputs.out2, 7);
+UART_AT(uart_answer, outputs.intrpt, 8);
+UART_AT(uart_answer, state, 12);
 
-UART_STATIC_ASSERT(sizeof(struct uart_looked) == 7, "uart_looked");
+UART_STATIC_ASSERT(sizeof(struct uart_looked) == 8, "uart_looked");
 UART_AT(uart_looked, number, 0);
-UART_AT(uart_looked, outputs, 1);
+UART_AT(uart_looked, part, 1);
+UART_AT(uart_looked, outputs, 2);
 
 UART_STATIC_ASSERT(sizeof(struct uart_forecasted) == 8, "uart_forecasted");
 UART_AT(uart_forecasted, number, 0);
+UART_AT(uart_forecasted, part, 1);
 UART_AT(uart_forecasted, ticks, 4);
 
-UART_STATIC_ASSERT(sizeof(struct uart_leveled) == 2, "uart_leveled");
+UART_STATIC_ASSERT(sizeof(struct uart_leveled) == 3, "uart_leveled");
 UART_AT(uart_leveled, number, 0);
-UART_AT(uart_leveled, level, 1);
+UART_AT(uart_leveled, part, 1);
+UART_AT(uart_leveled, level, 2);
 
 UART_STATIC_ASSERT(sizeof(struct uart_ran) == 384, "uart_ran");
 UART_AT(uart_ran, number, 0);
+UART_AT(uart_ran, part, 1);
 UART_AT(uart_ran, used, 4);
 UART_AT(uart_ran, state, 8);
 
 UART_STATIC_ASSERT(sizeof(struct uart_replayed) == 392, "uart_replayed");
 UART_AT(uart_replayed, values.number, 0);
-UART_AT(uart_replayed, values.seen, 1);
-UART_AT(uart_replayed, values.model, 2);
+UART_AT(uart_replayed, values.part, 1);
+UART_AT(uart_replayed, values.seen, 2);
+UART_AT(uart_replayed, values.model, 3);
 UART_AT(uart_replayed, values.place, 8);
 UART_AT(uart_replayed, state, 16);
 

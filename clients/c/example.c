@@ -24,7 +24,7 @@ static uint32_t ticks;
 static struct uart_answer done(struct uart_answer a)
 {
     if (a.number != UART_DONE) {
-        printf("refused, number %d\n", a.number);
+        printf("refused, number %d, part %d\n", a.number, a.part);
         exit(EXIT_FAILURE);
     }
     uart = a.state;
@@ -170,6 +170,7 @@ int main(void)
 {
     const char *message = "HELLO, BEAM";
     struct uart_state before;
+    struct uart_looked looked;
     uint32_t from;
     uint32_t left;
 
@@ -202,8 +203,9 @@ int main(void)
 
     printf("read of register 8: number %d\n", uart_read(uart, 8).number);
     printf("SIN at 2: number %d\n", uart_set_sin(uart, 2).number);
-    memset(&uart, 0xFF, sizeof uart);
-    printf("pins of a damaged state: number %d\n", uart_pins(uart).number);
+    memset(uart.tx.bytes, 0xFF, sizeof uart.tx.bytes);
+    looked = uart_pins(uart);
+    printf("pins of a damaged state: number %d, part %d\n", looked.number, looked.part);
     replay_captures();
     return EXIT_SUCCESS;
 }

@@ -39,9 +39,9 @@ static int told_right(const struct told *last, const struct uart_values *v, size
 
 static int same(struct uart_replayed a, struct uart_replayed b)
 {
-    return a.values.number == b.values.number && a.values.seen == b.values.seen &&
-           a.values.model == b.values.model && a.values.place == b.values.place &&
-           uart_equal(&a.state, &b.state);
+    return a.values.number == b.values.number && a.values.part == b.values.part &&
+           a.values.seen == b.values.seen && a.values.model == b.values.model &&
+           a.values.place == b.values.place && uart_equal(&a.state, &b.state);
 }
 
 /* The answer where the bytes come `size` at a time. */

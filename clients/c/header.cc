@@ -1,4 +1,4 @@
-// The header in C++: a call of each kind, and the file calls.
+// The header in C++: a call of each kind, the file calls, and a refused state.
 #include "tl16c750.h"
 
 #include <cstdint>
@@ -14,6 +14,7 @@ int main()
 {
     const std::uint8_t capture[] = {'U', 'T', 'R', 0, 1, 0, 0, 0, 0x60, 5, 0, 0x10};
     uart_state fresh = uart_fresh();
+    uart_state damaged = fresh;
     std::FILE *file = std::tmpfile();
     int calls = 0;
     uart_replayed answer = uart_replay_bytes_telling(capture, sizeof capture, count_calls, &calls);
@@ -24,9 +25,10 @@ int main()
     if (uart_replay_file(file, &answer, count_calls, &calls) != 0 || calls != 2)
         return EXIT_FAILURE;
     std::fclose(file);
+    damaged.inputs.sin = 2;
     return answer.values.number == UART_DONE && answer.values.seen == answer.values.model &&
                    uart_equal(&answer.state, &fresh) && uart_read(fresh, UART_LSR).byte == 0x60 &&
-                   uart_version().layout == UART_LAYOUT
+                   uart_pins(damaged).part == UART_IN_SETTINGS && uart_version().layout == UART_LAYOUT
                ? EXIT_SUCCESS
                : EXIT_FAILURE;
 }

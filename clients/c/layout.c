@@ -49,6 +49,7 @@ static void check_outputs(struct uart_outputs o)
 static void check_values(struct uart_values v)
 {
     HAS(v, number, 100);
+    HAS(v, part, 113);
     HAS(v, seen, 101);
     HAS(v, model, 108);
     HAS(v, place, 109);
@@ -66,16 +67,21 @@ static void check_specimens(void)
 
     check_state(uart_specimen_state());
     HAS(answer, number, 100);
+    HAS(answer, part, 113);
     HAS(answer, byte, 101);
     check_outputs(answer.outputs);
     check_state(answer.state);
     HAS(looked, number, 100);
+    HAS(looked, part, 113);
     check_outputs(looked.outputs);
     HAS(forecasted, number, 100);
+    HAS(forecasted, part, 113);
     HAS(forecasted, ticks, 101);
     HAS(leveled, number, 100);
+    HAS(leveled, part, 113);
     HAS(leveled, level, 101);
     HAS(ran, number, 100);
+    HAS(ran, part, 113);
     HAS(ran, used, 101);
     check_state(ran.state);
     check_values(replayed.values);
@@ -168,6 +174,7 @@ static void check_progress(void)
     struct uart_replayed r = uart_replay_end(p, tick, 1);
 
     expect(r.values.number == UART_MALFORMED && r.values.place == 0, "too many records");
+    expect(r.values.part == 0, "part of too many records");
     check_state(r.state);
     p.done = 7;
     p = uart_replay_more(p, tick, 4);
@@ -176,6 +183,7 @@ static void check_progress(void)
     p.stopped = UART_GOING_ON;
     p = uart_replay_more(p, tick, 4);
     expect(p.stopped == UART_REFUSED && p.values.number == UART_MALFORMED, "a malformed state");
+    expect(p.values.part == UART_IN_REGISTERS, "part of a malformed state");
     expect(p.values.place == 7, "place of a malformed state");
 }
 

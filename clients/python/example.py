@@ -10,12 +10,13 @@ PULSES_PER_BIT = 16  # and a tick is a pulse: the divisor is 1
 BITS_PER_FRAME = 10  # start, eight data bits, stop
 
 
-def number(call):
+def refusal_of(call):
+    """The refusal of a call that is to be refused."""
     try:
         call()
     except Refused as refusal:
-        return refusal.number
-    return 0
+        return refusal
+    raise AssertionError("not refused")
 
 
 def print_forecast(uart):
@@ -124,14 +125,15 @@ def main():
     print(f"levels as foretold: {'yes' if foretold else 'no'}")
     print_line(sout)
 
-    print(f"read of register 8: number {number(lambda: uart.read(8))}")
+    print(f"read of register 8: number {refusal_of(lambda: uart.read(8)).number}")
 
     def raise_sin():
         uart.sin = 2
 
-    print(f"SIN at 2: number {number(raise_sin)}")
+    print(f"SIN at 2: number {refusal_of(raise_sin).number}")
     uart.state.tx.bytes = [0xFF] * PLACES
-    print(f"pins of a damaged state: number {number(lambda: uart.pins)}")
+    damaged = refusal_of(lambda: uart.pins)
+    print(f"pins of a damaged state: number {damaged.number}, part {damaged.part}")
     replay_captures()
 
 

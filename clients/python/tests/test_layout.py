@@ -53,14 +53,14 @@ STATE = {
     },
 }
 OUTPUTS = {"sout": 102, "rts": 103, "dtr": 104, "out1": 105, "out2": 106, "intrpt": 107}
-VALUES = {"number": 100, "seen": 101, "model": 108, "place": eight(109)}
+VALUES = {"number": 100, "part": 113, "seen": 101, "model": 108, "place": eight(109)}
 SPECIMENS = {
     State: STATE,
-    Answer: {"number": 100, "byte": 101, "outputs": OUTPUTS, "state": STATE},
-    Looked: {"number": 100, "outputs": OUTPUTS},
-    Forecasted: {"number": 100, "ticks": four(101)},
-    Leveled: {"number": 100, "level": 101},
-    Ran: {"number": 100, "used": four(101), "state": STATE},
+    Answer: {"number": 100, "part": 113, "byte": 101, "outputs": OUTPUTS, "state": STATE},
+    Looked: {"number": 100, "part": 113, "outputs": OUTPUTS},
+    Forecasted: {"number": 100, "part": 113, "ticks": four(101)},
+    Leveled: {"number": 100, "part": 113, "level": 101},
+    Ran: {"number": 100, "part": 113, "used": four(101), "state": STATE},
     Replayed: {"values": VALUES, "state": STATE},
     Progress: {
         "version": four(110),

@@ -12,7 +12,23 @@ import unittest
 from pathlib import Path
 
 import tl16c750
-from tl16c750 import LCR, MALFORMED, THR, Entry, Refused, State, Uart, library, structs, uart
+from tl16c750 import (
+    IN_LATCHES,
+    IN_RECEIVER,
+    IN_REGISTERS,
+    IN_SETTINGS,
+    IN_TRANSMITTER,
+    LCR,
+    MALFORMED,
+    THR,
+    Entry,
+    Refused,
+    State,
+    Uart,
+    library,
+    structs,
+    uart,
+)
 
 TOP = Path(__file__).resolve().parents[3]
 CALLS = TOP / "target" / "bin" / "calls"
@@ -126,9 +142,11 @@ class Values(unittest.TestCase):
         self.assertEqual(u, Uart())
 
     def test_refusals_survive(self):
-        refusal = pickle.loads(pickle.dumps(Refused(8, 5)))
-        self.assertEqual((refusal.number, refusal.place), (8, 5))
-        self.assertIn("number 99", str(Refused(99)))
+        for given in ((8, 5, None), (1, None, 3)):
+            refusal = Refused(*given)
+            again = pickle.loads(pickle.dumps(refusal))
+            self.assertEqual((again.number, again.place, again.part), given)
+            self.assertEqual(str(again), str(refusal))
         with concurrent.futures.ProcessPoolExecutor(1) as pool:
             with self.assertRaises(Refused) as refused:
                 pool.submit(fail, 7).result(60)
@@ -211,16 +229,66 @@ class Said(unittest.TestCase):
 
 
 class Refusals(unittest.TestCase):
+    # For each part of a state a number in it that breaks a range.
+    DAMAGE = {
+        IN_REGISTERS: ("baud", "k", 2),
+        IN_SETTINGS: ("inputs", "sin", 2),
+        IN_TRANSMITTER: ("tx", "count", 65),
+        IN_RECEIVER: ("rx", "count", 65),
+        IN_LATCHES: ("latches", "hold", 1),
+    }
+
+    def damage(self, u, part):
+        struct, name, value = self.DAMAGE[part]
+        setattr(getattr(u.state, struct), name, value)
+
+    def refusal(self, call):
+        with self.assertRaises(Refused) as refused:
+            call()
+        return refused.exception
+
     def test_a_malformed_state(self):
+        for part in self.DAMAGE:
+            u = busy()
+            self.damage(u, part)
+            before = u.copy()
+            for call in (
+                u.reset,
+                lambda: u.read(8),
+                lambda: u.write(LCR, 3),
+                lambda: setattr(u, "sin", 2),
+                lambda: setattr(u, "modem", 0),
+                u.tick,
+                lambda: u.pins,
+                u.forecast,
+                lambda: u.level(0),
+                lambda: u.run(5),
+                lambda: u.replay(1, []),
+            ):
+                refusal = self.refusal(call)
+                self.assertEqual((refusal.number, refusal.part), (MALFORMED, part))
+            self.assertEqual(u, before)
+
+    def test_the_lowest_part_stands(self):
         u = busy()
-        u.state.rx.count = 65
-        before = u.copy()
-        run, replay = lambda: u.run(5), lambda: u.replay(1, [])
-        for call in (u.reset, u.tick, u.forecast, lambda: u.pins, run, replay):
-            with self.assertRaises(Refused) as refused:
-                call()
-            self.assertEqual(refused.exception.number, MALFORMED)
-        self.assertEqual(u, before)
+        for part in reversed(self.DAMAGE):
+            self.damage(u, part)
+            self.assertEqual(self.refusal(u.reset).part, part)
+
+    def test_other_numbers_have_no_part(self):
+        u = busy()
+        for call in (lambda: u.read(8), lambda: setattr(u, "modem", 16), lambda: u.replay(2, [])):
+            self.assertIsNone(self.refusal(call).part)
+
+    def test_words(self):
+        u = busy()
+        self.damage(u, IN_TRANSMITTER)
+        words = "the state is not well formed: transmit queue and frame"
+        self.assertEqual(str(self.refusal(u.reset)), f"{words} (number 1, part 3)")
+        replayed = self.refusal(lambda: u.replay(1, []))
+        self.assertEqual(str(replayed), f"{words} (number 1, part 3, place 0)")
+        self.assertEqual(str(Refused(7, 0)), "unknown version of a capture (number 7, place 0)")
+        self.assertEqual(str(Refused(99)), "refused (number 99)")
 
     def test_pieces_do_not_show(self):
         n = 3 * uart._TICKS + 5

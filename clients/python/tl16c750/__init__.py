@@ -8,10 +8,10 @@
     >>> uart.tick(100).sout
     1
 
-A call that is refused raises Refused, whose number is that of the table in document 01; the state is
-then as it was, or, where a replay meets a bad record, that before it. replay_file starts from the fresh
-state, which is then also that after a refused header. Ctrl-C stops a long tick, run or replay within a
-second; the state is then as it was before the call.
+A call that is refused raises Refused, whose number is that of the table in document 01, and whose part
+says what of a malformed state is bad; the state is then as it was, or, where a replay meets a bad record,
+that before it. replay_file starts from the fresh state, which is then also that after a refused header.
+Ctrl-C stops a long tick, run or replay within a second; the state is then as it was before the call.
 """
 from .structs import (
     PLACES,
@@ -39,6 +39,11 @@ from .uart import (
     HELD_BACK,
     IER,
     IIR,
+    IN_LATCHES,
+    IN_RECEIVER,
+    IN_REGISTERS,
+    IN_SETTINGS,
+    IN_TRANSMITTER,
     LCR,
     LSR,
     MALFORMED,
@@ -66,6 +71,11 @@ __all__ = [
     "HELD_BACK",
     "IER",
     "IIR",
+    "IN_LATCHES",
+    "IN_RECEIVER",
+    "IN_REGISTERS",
+    "IN_SETTINGS",
+    "IN_TRANSMITTER",
     "LCR",
     "LSR",
     "MALFORMED",

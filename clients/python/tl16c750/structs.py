@@ -337,6 +337,7 @@ class Answer(Struct):
     """What a step answers: the byte read, the pins after it, the next state."""
 
     number: U8
+    part: U8
     byte: U8
     outputs: Outputs
     state: State
@@ -347,6 +348,7 @@ class Looked(Struct):
     """What the look at the pins answers."""
 
     number: U8
+    part: U8
     outputs: Outputs
 
 
@@ -355,6 +357,7 @@ class Forecasted(Struct):
     """What the forecast answers: the ticks until queue and shift register are both empty."""
 
     number: U8
+    part: U8
     ticks: U32
 
 
@@ -363,6 +366,7 @@ class Leveled(Struct):
     """What the call for the line's level answers."""
 
     number: U8
+    part: U8
     level: U8
 
 
@@ -371,15 +375,17 @@ class Ran(Struct):
     """What run answers: the ticks used, and the state after them."""
 
     number: U8
+    part: U8
     used: U32
     state: State
 
 
 @_struct
 class Values(Struct):
-    """How a replay ended: the number, the byte seen, the model's byte, the record's place."""
+    """How a replay ended: number and part, the byte seen, the model's byte, the record's place."""
 
     number: U8
+    part: U8
     seen: U8
     model: U8
     place: Size

@@ -23,6 +23,9 @@ LCR, MCR, LSR, MSR, SCR = 3, 4, 5, 6, 7
 MALFORMED, BAD_ADDRESS, BAD_LEVEL, NO_CLOCK, HELD_BACK = 1, 2, 3, 4, 5
 BAD_HEADER, UNKNOWN_VERSION, BAD_RECORD = 6, 7, 8
 
+# The parts of a state: registers and baud; fifo and inputs; tx and frame; rx and receiver; latches.
+IN_REGISTERS, IN_SETTINGS, IN_TRANSMITTER, IN_RECEIVER, IN_LATCHES = 1, 2, 3, 4, 5
+
 _WHY = {
     MALFORMED: "the state is not well formed",
     BAD_ADDRESS: "register address above 7",
@@ -32,6 +35,14 @@ _WHY = {
     BAD_HEADER: "bad mark or nonzero pad of a capture",
     UNKNOWN_VERSION: "unknown version of a capture",
     BAD_RECORD: "record of bad kind, with stray bits, or cut off",
+}
+
+_WHERE = {
+    IN_REGISTERS: "registers, divisor or k",
+    IN_SETTINGS: "FIFO settings and pins",
+    IN_TRANSMITTER: "transmit queue and frame",
+    IN_RECEIVER: "receive queue and receiver",
+    IN_LATCHES: "latches, OE, idle count, change bits and hold",
 }
 
 # A call of the library is not interrupted, so long work goes in pieces of some tenths of a second at
@@ -50,19 +61,29 @@ Told = Callable[[int, int, Optional[int]], object]
 
 
 class Refused(Exception):
-    """A refusal, by its number; of a replay with the record's place."""
+    """A refusal, by its number; of a replay with the record's place; of a malformed state with the part
+    of it that is bad: the lowest one that breaks a range. A range that joins two parts counts for the
+    later one."""
 
     number: int
     place: Optional[int]
+    part: Optional[int]
 
-    def __init__(self, number: int, place: Optional[int] = None) -> None:
-        at = "" if place is None else f", place {place}"
-        super().__init__(f"{_WHY.get(number, 'refused')} (number {number}{at})")
+    def __init__(self, number: int, place: Optional[int] = None, part: Optional[int] = None) -> None:
+        why = _WHY.get(number, "refused")
+        numbers = f"number {number}"
+        if part is not None:
+            why += f": {_WHERE.get(part, 'unknown part')}"
+            numbers += f", part {part}"
+        if place is not None:
+            numbers += f", place {place}"
+        super().__init__(f"{why} ({numbers})")
         self.number = number
         self.place = place
+        self.part = part
 
-    def __reduce__(self) -> tuple[type[Refused], tuple[int, Optional[int]]]:
-        return Refused, (self.number, self.place)
+    def __reduce__(self) -> tuple[type[Refused], tuple[int, Optional[int], Optional[int]]]:
+        return Refused, (self.number, self.place, self.part)
 
 
 class Difference(NamedTuple):
@@ -76,7 +97,7 @@ class Difference(NamedTuple):
 def _done(answer: Any) -> Any:
     """The answer, unless it is a refusal."""
     if answer.number:
-        raise Refused(answer.number)
+        raise Refused(answer.number, part=answer.part or None)
     return answer
 
 
@@ -88,7 +109,7 @@ def _agreed(values: Values) -> bool:
 def _difference(values: Values, before: int = 0) -> Optional[Difference]:
     """How a replay ended, its place counted from so many records earlier."""
     if values.number:
-        raise Refused(values.number, before + values.place)
+        raise Refused(values.number, before + values.place, values.part or None)
     if _agreed(values):
         return None
     return Difference(before + values.place, values.seen, values.model)

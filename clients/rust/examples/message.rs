@@ -8,7 +8,7 @@ const PULSES_PER_BIT: usize = 16; // and a tick is a pulse: the divisor is 1
 const BITS_PER_FRAME: usize = 10; // start, eight data bits, stop
 
 fn number<T>(answer: Result<T, Refusal>) -> u8 {
-    answer.map_or_else(|refusal| refusal.0, |_| 0)
+    answer.map_or_else(|refusal| refusal.number, |_| 0)
 }
 
 // The levels of SOUT, one for each tick.
@@ -132,7 +132,10 @@ fn main() -> Result<(), Box<dyn Error>> {
     println!("read of register 8: number {}", number(uart.read(8)));
     println!("SIN at 2: number {}", number(uart.set_sin(2)));
     uart.state.tx.bytes = [0xFF; 64];
-    println!("pins of a damaged state: number {}", number(uart.pins()));
+    if let Err(Refusal { number, part }) = uart.pins() {
+        let part = part.map_or(0, |part| part as u8);
+        println!("pins of a damaged state: number {number}, part {part}");
+    }
     replay_captures()?;
     Ok(())
 }

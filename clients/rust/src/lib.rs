@@ -56,33 +56,88 @@ pub const MSR: u8 = 6;
 /// Scratch.
 pub const SCR: u8 = 7;
 
-/// A refusal, by its number. The state is as it was; of a replay see [`Outcome`].
+/// The part of a malformed [`State`] that is bad, here with its fields: the lowest one that breaks a
+/// range. A range that joins two parts counts for the later one.
+#[repr(u8)]
+#[derive(Clone, Copy, Debug, PartialEq, Eq, PartialOrd, Ord, Hash)]
+pub enum StatePart {
+    /// `registers` and `baud`.
+    Registers = 1,
+    /// `fifo` and `inputs`.
+    Settings = 2,
+    /// `tx` and `frame`.
+    Transmitter = 3,
+    /// `rx` and `receiver`.
+    Receiver = 4,
+    /// `latches`.
+    Latches = 5,
+}
+
+impl StatePart {
+    fn of(part: u8) -> Option<StatePart> {
+        Some(match part {
+            1 => StatePart::Registers,
+            2 => StatePart::Settings,
+            3 => StatePart::Transmitter,
+            4 => StatePart::Receiver,
+            5 => StatePart::Latches,
+            _ => return None,
+        })
+    }
+}
+
+impl fmt::Display for StatePart {
+    fn fmt(&self, f: &mut fmt::Formatter<'_>) -> fmt::Result {
+        f.write_str(match self {
+            StatePart::Registers => "registers, divisor or k",
+            StatePart::Settings => "FIFO settings and pins",
+            StatePart::Transmitter => "transmit queue and frame",
+            StatePart::Receiver => "receive queue and receiver",
+            StatePart::Latches => "latches, OE, idle count, change bits and hold",
+        })
+    }
+}
+
+/// A refusal. The state is as it was; of a replay see [`Outcome`].
 #[derive(Clone, Copy, Debug, PartialEq, Eq, Hash)]
-pub struct Refusal(pub u8);
+pub struct Refusal {
+    /// Its number.
+    pub number: u8,
+    /// With number 1 the part of the state that is bad; none for a file of more than 2^62 records.
+    pub part: Option<StatePart>,
+}
 
 impl Refusal {
-    /// The state is not well formed.
-    pub const MALFORMED: Refusal = Refusal(1);
     /// A register address above 7.
-    pub const BAD_ADDRESS: Refusal = Refusal(2);
+    pub const BAD_ADDRESS: Refusal = Refusal::numbered(2);
     /// SIN above 1, or modem pins above 15.
-    pub const BAD_LEVEL: Refusal = Refusal(3);
+    pub const BAD_LEVEL: Refusal = Refusal::numbered(3);
     /// Work left and the divisor is 0.
-    pub const NO_CLOCK: Refusal = Refusal(4);
+    pub const NO_CLOCK: Refusal = Refusal::numbered(4);
     /// Bytes queued and held by flow control.
-    pub const HELD_BACK: Refusal = Refusal(5);
+    pub const HELD_BACK: Refusal = Refusal::numbered(5);
     /// Of a file alone: a bad mark or a nonzero pad.
-    pub const BAD_HEADER: Refusal = Refusal(6);
+    pub const BAD_HEADER: Refusal = Refusal::numbered(6);
     /// A capture of an unknown version.
-    pub const UNKNOWN_VERSION: Refusal = Refusal(7);
+    pub const UNKNOWN_VERSION: Refusal = Refusal::numbered(7);
     /// A record of bad kind, with stray bits, or cut off.
-    pub const BAD_RECORD: Refusal = Refusal(8);
+    pub const BAD_RECORD: Refusal = Refusal::numbered(8);
+
+    /// Number 1: the state is not well formed, and this part of it is bad.
+    pub const fn malformed(part: StatePart) -> Refusal {
+        let part = Some(part);
+        Refusal { number: 1, part }
+    }
+
+    const fn numbered(number: u8) -> Refusal {
+        Refusal { number, part: None }
+    }
 }
 
 impl fmt::Display for Refusal {
     fn fmt(&self, f: &mut fmt::Formatter<'_>) -> fmt::Result {
         let why = match *self {
-            Refusal::MALFORMED => "the state is not well formed",
+            Refusal { number: 1, .. } => "the state is not well formed",
             Refusal::BAD_ADDRESS => "register address above 7",
             Refusal::BAD_LEVEL => "impossible pin level",
             Refusal::NO_CLOCK => "work left and the divisor is 0",
@@ -92,18 +147,22 @@ impl fmt::Display for Refusal {
             Refusal::BAD_RECORD => "record of bad kind, with stray bits, or cut off",
             _ => "refused",
         };
-        write!(f, "{why} (number {})", self.0)
+        let number = self.number;
+        match self.part {
+            Some(part) => write!(f, "{why}: {part} (number {number}, part {})", part as u8),
+            None => write!(f, "{why} (number {number})"),
+        }
     }
 }
 
 impl core::error::Error for Refusal {}
 
-fn done<T>(number: u8, value: T) -> Result<T, Refusal> {
+fn done<T>(number: u8, part: u8, value: T) -> Result<T, Refusal> {
     if number == 0 {
-        Ok(value)
-    } else {
-        Err(Refusal(number))
+        return Ok(value);
     }
+    let part = StatePart::of(part);
+    Err(Refusal { number, part })
 }
 
 /// How a replay ended. Places count from 0 at the first record.
@@ -134,11 +193,12 @@ impl Outcome {
     fn of(values: raw::Values) -> Outcome {
         let raw::Values {
             number,
+            part,
             seen,
             model,
             place,
         } = values;
-        match done(number, ()) {
+        match done(number, part, ()) {
             Err(refusal) => Outcome::Refused { refusal, place },
             Ok(()) if seen != model => Outcome::Differs { place, seen, model },
             Ok(()) => Outcome::Agreed,
@@ -160,7 +220,7 @@ impl fmt::Display for Outcome {
         match self {
             Outcome::Agreed => write!(f, "agreed"),
             Outcome::Differs { place, seen, model } => write!(f, "differs {place} {seen} {model}"),
-            Outcome::Refused { refusal, place } => write!(f, "refused {} {place}", refusal.0),
+            Outcome::Refused { refusal, place } => write!(f, "refused {} {place}", refusal.number),
         }
     }
 }
@@ -187,7 +247,7 @@ impl Uart {
     }
 
     fn step(&mut self, answer: raw::Answer) -> Result<raw::Answer, Refusal> {
-        done(answer.number, answer)?;
+        done(answer.number, answer.part, answer)?;
         self.state = answer.state;
         Ok(answer)
     }
@@ -237,25 +297,25 @@ impl Uart {
     /// The output pins as they are.
     pub fn pins(&self) -> Result<Outputs, Refusal> {
         let looked = raw::uart_pins(self.state);
-        done(looked.number, looked.outputs)
+        done(looked.number, looked.part, looked.outputs)
     }
 
     /// The ticks until queue and shift register are both empty.
     pub fn forecast(&self) -> Result<u32, Refusal> {
         let forecasted = raw::uart_forecast(self.state);
-        done(forecasted.number, forecasted.ticks)
+        done(forecasted.number, forecasted.part, forecasted.ticks)
     }
 
     /// The level of the transmitter's line after t ticks.
     pub fn level(&self, t: u32) -> Result<u8, Refusal> {
         let leveled = raw::uart_level(self.state, t);
-        done(leveled.number, leveled.level)
+        done(leveled.number, leveled.part, leveled.level)
     }
 
     /// At most n ticks, until queue and shift register are both empty: the ticks used.
     pub fn run(&mut self, n: u32) -> Result<u32, Refusal> {
         let ran = raw::uart_run(self.state, n);
-        let used = done(ran.number, ran.used)?;
+        let used = done(ran.number, ran.part, ran.used)?;
         self.state = ran.state;
         Ok(used)
     }

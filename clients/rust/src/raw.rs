@@ -181,6 +181,8 @@ pub struct Outputs {
 pub struct Answer {
     /// 0, or the number of a refusal.
     pub number: u8,
+    /// The part of the state that is bad; 0 with another number than 1.
+    pub part: u8,
     /// The byte read; 0 where nothing is read.
     pub byte: u8,
     /// The pins after the step.
@@ -195,6 +197,8 @@ pub struct Answer {
 pub struct Looked {
     /// 0, or the number of a refusal.
     pub number: u8,
+    /// The part of the state that is bad; 0 with another number than 1.
+    pub part: u8,
     /// The pins.
     pub outputs: Outputs,
 }
@@ -205,6 +209,8 @@ pub struct Looked {
 pub struct Forecasted {
     /// 0, or the number of a refusal.
     pub number: u8,
+    /// The part of the state that is bad; 0 with another number than 1.
+    pub part: u8,
     /// The ticks until queue and shift register are both empty.
     pub ticks: u32,
 }
@@ -215,6 +221,8 @@ pub struct Forecasted {
 pub struct Leveled {
     /// 0, or the number of a refusal.
     pub number: u8,
+    /// The part of the state that is bad; 0 with another number than 1.
+    pub part: u8,
     /// The level of the line.
     pub level: u8,
 }
@@ -225,18 +233,22 @@ pub struct Leveled {
 pub struct Ran {
     /// 0, or the number of a refusal.
     pub number: u8,
+    /// The part of the state that is bad; 0 with another number than 1.
+    pub part: u8,
     /// The ticks used.
     pub used: u32,
     /// The state after them.
     pub state: State,
 }
 
-/// How a replay ended: the number, the byte seen, the model's byte, the record's place.
+/// How a replay ended: number and part, the byte seen, the model's byte, the record's place.
 #[repr(C)]
 #[derive(Clone, Copy, Debug, PartialEq, Eq, Hash)]
 pub struct Values {
     /// 0, or the number of a refusal.
     pub number: u8,
+    /// The part of the state that is bad; 0 with another number than 1.
+    pub part: u8,
     /// The byte seen.
     pub seen: u8,
     /// The model's byte.
@@ -286,7 +298,7 @@ pub struct Versions {
 }
 
 /// The layout of the structs that this crate is written for.
-pub const LAYOUT: u32 = 1;
+pub const LAYOUT: u32 = 2;
 
 /// The library's own size of each struct, in bytes.
 #[repr(C)]

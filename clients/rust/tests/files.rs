@@ -1,11 +1,11 @@
-// The stored captures, read in pieces of odd sizes, end as the second program says; what a refusal
-// and an outcome print; states as keys.
+// The stored captures, read in pieces of odd sizes, end as the second program says; what an outcome
+// prints; states as keys.
 #![cfg(feature = "std")]
 
 use std::collections::HashSet;
 use std::io::{Error, Read, Result};
 use std::{fs, path::Path};
-use tl16c750::{File, Outcome, Refusal, Told, Uart, LCR};
+use tl16c750::{File, Outcome, Told, Uart, LCR};
 
 // A file that gives a few bytes at a time.
 struct Pieces<'a> {
@@ -99,13 +99,6 @@ fn progress_ends_at_the_place() -> Result<()> {
         }
     }
     Ok(())
-}
-
-#[test]
-fn refusals_print_words() {
-    let words = "unknown version of a capture (number 7)";
-    assert_eq!(Refusal::UNKNOWN_VERSION.to_string(), words);
-    assert_eq!(Refusal(99).to_string(), "refused (number 99)");
 }
 
 #[test]

@@ -2,7 +2,7 @@
 // number, and each size is the library's own.
 use std::mem::size_of;
 use tl16c750::raw::*;
-use tl16c750::{Outcome, Refusal, Uart, LSR, RBR};
+use tl16c750::{Outcome, Refusal, StatePart, Uart, LSR, RBR};
 
 fn four(n: u8) -> u32 {
     u32::from_ne_bytes([n; 4])
@@ -70,6 +70,7 @@ fn state() -> State {
 fn values() -> Values {
     Values {
         number: 100,
+        part: 113,
         seen: 101,
         model: 108,
         place: eight(109),
@@ -94,6 +95,7 @@ fn fields_lie_as_in_the_specimens() {
         uart_specimen_answer(),
         Answer {
             number: 100,
+            part: 113,
             byte: 101,
             outputs: outputs(),
             state: state()
@@ -103,6 +105,7 @@ fn fields_lie_as_in_the_specimens() {
         uart_specimen_looked(),
         Looked {
             number: 100,
+            part: 113,
             outputs: outputs()
         }
     );
@@ -110,6 +113,7 @@ fn fields_lie_as_in_the_specimens() {
         uart_specimen_forecasted(),
         Forecasted {
             number: 100,
+            part: 113,
             ticks: four(101)
         }
     );
@@ -117,6 +121,7 @@ fn fields_lie_as_in_the_specimens() {
         uart_specimen_leveled(),
         Leveled {
             number: 100,
+            part: 113,
             level: 101
         }
     );
@@ -124,6 +129,7 @@ fn fields_lie_as_in_the_specimens() {
         uart_specimen_ran(),
         Ran {
             number: 100,
+            part: 113,
             used: four(101),
             state: state()
         }
@@ -190,7 +196,8 @@ fn a_state_handed_in_arrives() {
     assert_eq!(uart.read(RBR), Ok(0x5A));
     uart.state.rx.entries[63].bi = 1;
     let before = uart;
-    assert_eq!(uart.read(LSR), Err(Refusal::MALFORMED));
+    let refusal = Refusal::malformed(StatePart::Receiver);
+    assert_eq!(uart.read(LSR), Err(refusal));
     assert_eq!(uart, before);
 }
 
@@ -219,6 +226,7 @@ fn records_handed_in_arrive() {
     );
     assert_eq!(uart.state.registers.scr, 0x5A);
     uart.state = state();
-    assert_eq!(uart.replay(0, &records), refused(Refusal::MALFORMED));
+    let malformed = Refusal::malformed(StatePart::Registers);
+    assert_eq!(uart.replay(0, &records), refused(malformed));
     assert_eq!(uart.state, state());
 }
