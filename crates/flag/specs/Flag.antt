@@ -39,6 +39,12 @@ abbrev pub firstFailing : ℕ → List Bool → ℕ
 firstFailing n [] = 0
 firstFailing n (t ∷ ts) = cond t (firstFailing (suc n) ts) n
 
+-- of two lists of tests in the same order, whether both tests at each place hold
+abbrev pub bothOf : List Bool → List Bool → List Bool
+bothOf [] us = []
+bothOf (t ∷ ts) [] = []
+bothOf (t ∷ ts) (u ∷ us) = (t && u) ∷ bothOf ts us
+
 -- every element of a list passes the test p
 abbrev pub allOf : {A : Type 0} → (A → Bool) → List A → Bool
 allOf p [] = true

@@ -9,7 +9,7 @@ use native.Mathlib.Omega.{arith}
 use borrow.Author.Tests.{leb-true}
 use Rattle.flag.specs.Flag.{allOf}
 use Rattle.flag.proofs.Laws.{and-left, and-right, and-both, Each, each-of}
-use Rattle.numbers.specs.Numbers.{receiverCount, stateCount, entriesNumbers, settingsNumbers, frameNumbers, receiverNumbers, numbersOf, place, byteAt, isByte, bytesIn, byteTests, fits, low, entriesOf, transmitOf, receiveOf, stateOf}
+use Rattle.numbers.specs.Numbers.{receiverCount, stateCount, entriesNumbers, settingsNumbers, frameNumbers, receiverNumbers, numbersOf, place, byteAt, isByte, bytesIn, fitting, fits, low, entriesOf, transmitOf, receiveOf, stateOf}
 
 -- Bytes.
 
@@ -85,9 +85,9 @@ split : (n b : ℕ) (ns : List ℕ) → take n (drop b ns) ++ drop (b + n) ns �
 split n b ns = ap (λ (s : List ℕ). take n (drop b ns) ++ s) (sym (drop-drop n b ns)) ∙ take-append-drop n (drop b ns)
 
 module _ (ns : List ℕ) (long : length ns ≡ stateCount) (t : fits ns ≡ true) where
-  tests : Each (byteTests ns)
+  tests : Each (fitting ns)
   unfolding fits
-  tests = each-of (byteTests ns) t
+  tests = each-of (fitting ns) t
 
   -- the places that are bytes
   b1 : (i : ℕ) → 1 ≤ i → i ≤ 4 → byteAt i ns ≡ place i ns
@@ -97,16 +97,19 @@ module _ (ns : List ℕ) (long : length ns ≡ stateCount) (t : fits ns ≡ true
   b7 i h k = byte-there ns 7 12 i (tests .1 .0) (omega arith) (omega arith) h k
 
   b79 : (i : ℕ) → 79 ≤ i → i ≤ 80 → byteAt i ns ≡ place i ns
-  b79 i h k = byte-there ns 79 80 i (tests .1 .1 .1 .0) (omega arith) (omega arith) h k
+  b79 i h k = byte-there ns 79 80 i (and-right (bytesIn 14 77 ns) (bytesIn 79 80 ns) (tests .1 .1 .0)) (omega arith) (omega arith) h k
 
   b82 : (i : ℕ) → 82 ≤ i → i ≤ 338 → byteAt i ns ≡ place i ns
-  b82 i h k = byte-there ns 82 338 i (tests .1 .1 .1 .1 .0) (omega arith) (omega arith) h k
+  b82 i h k = byte-there ns 82 338 i (and-left (bytesIn 82 338 ns) (bytesIn 340 342 ns) (tests .1 .1 .1 .0)) (omega arith) (omega arith) h k
 
-  b340 : (i : ℕ) → 340 ≤ i → i ≤ 345 → byteAt i ns ≡ place i ns
-  b340 i h k = byte-there ns 340 345 i (tests .1 .1 .1 .1 .1 .0) (omega arith) (omega arith) h k
+  b340 : (i : ℕ) → 340 ≤ i → i ≤ 342 → byteAt i ns ≡ place i ns
+  b340 i h k = byte-there ns 340 342 i (and-right (bytesIn 82 338 ns) (bytesIn 340 342 ns) (tests .1 .1 .1 .0)) (omega arith) (omega arith) h k
+
+  b343 : (i : ℕ) → 343 ≤ i → i ≤ 345 → byteAt i ns ≡ place i ns
+  b343 i h k = byte-there ns 343 345 i (and-left (bytesIn 343 345 ns) (bytesIn 347 348 ns) (tests .1 .1 .1 .1 .0)) (omega arith) (omega arith) h k
 
   b347 : (i : ℕ) → 347 ≤ i → i ≤ 348 → byteAt i ns ≡ place i ns
-  b347 i h k = byte-there ns 347 348 i (tests .1 .1 .1 .1 .1 .1 .0) (omega arith) (omega arith) h k
+  b347 i h k = byte-there ns 347 348 i (and-right (bytesIn 343 345 ns) (bytesIn 347 348 ns) (tests .1 .1 .1 .1 .0)) (omega arith) (omega arith) h k
 
   -- The five parts.
 
@@ -118,7 +121,7 @@ module _ (ns : List ℕ) (long : length ns ≡ stateCount) (t : fits ns ≡ true
 
   bytes-back : stateOf ns .tx .bytes ≡ take 64 (drop 13 ns)
   unfolding stateOf transmitOf bytesIn
-  bytes-back = map-low (take 64 (drop 13 ns)) (tests .1 .1 .0)
+  bytes-back = map-low (take 64 (drop 13 ns)) (and-left (bytesIn 14 77 ns) (bytesIn 79 80 ns) (tests .1 .1 .0))
 
   frame-back : frameNumbers (stateOf ns) ≡ take 4 (drop 77 ns)
   unfolding stateOf receiveOf
@@ -129,13 +132,13 @@ module _ (ns : List ℕ) (long : length ns ≡ stateCount) (t : fits ns ≡ true
   unfolding stateOf receiveOf bytesIn
   entries-are =
       let l : length (take 256 (drop 81 ns)) ≡ 4 * 64 = simp (length-take, length-drop) (omega arith) in
-      let a : allOf isByte (take 256 (take 257 (drop 81 ns))) ≡ true = all-take 256 (take 257 (drop 81 ns)) (tests .1 .1 .1 .1 .0) in
+      let a : allOf isByte (take 256 (take 257 (drop 81 ns))) ≡ true = all-take 256 (take 257 (drop 81 ns)) (and-left (bytesIn 82 338 ns) (bytesIn 340 342 ns) (tests .1 .1 .1 .0)) in
       entries-back 64 (take 256 (drop 81 ns)) l (rw (take-take 256 257 (drop 81 ns) (omega arith)) at a)
 
   receiver-back : receiverNumbers (stateOf ns .receiver) (stateOf ns .latches) ≡ drop 337 ns
   unfolding stateOf
   receiver-back =
-      rw (b82 338 (omega arith) (omega arith), b340 340 (omega arith) (omega arith), b340 341 (omega arith) (omega arith), b340 342 (omega arith) (omega arith), b340 343 (omega arith) (omega arith), b340 344 (omega arith) (omega arith), b340 345 (omega arith) (omega arith), b347 347 (omega arith) (omega arith), b347 348 (omega arith) (omega arith))
+      rw (b82 338 (omega arith) (omega arith), b340 340 (omega arith) (omega arith), b340 341 (omega arith) (omega arith), b340 342 (omega arith) (omega arith), b343 343 (omega arith) (omega arith), b343 344 (omega arith) (omega arith), b343 345 (omega arith) (omega arith), b347 347 (omega arith) (omega arith), b347 348 (omega arith) (omega arith))
       (each-part receiverCount 337 ns (omega arith) ∙ take-all receiverCount (drop 337 ns) (simp length-drop (omega arith)))
 
   -- the numbers of the state that is made of them

@@ -16,13 +16,15 @@ use queue::ByteQueue;
 use queue::Entry;
 use queue::EntryQueue;
 use sheet::limits;
+use sheet::part;
 ghost use mathlib.Core.Path.{_≡_};
 ghost use mathlib.Core.List.{map};
 ghost use Prim.Native.Nat.{_%_, _≤_};
 ghost use lib.ListN.{length};
+ghost use lib.Dec.{eqb};
 ghost use Rattle.flag.specs.Flag.{allOf};
 ghost use Rattle.numbers.specs.Numbers.{stateCount, isByte, bytesIn, registersOf, transmitOf, entryOf, entriesOf, receiveOf, frameOf, receiverOf, latchesOf, stateOf};
-ghost use Rattle.numbers.specs.Numbers.{fits as «do-fit», low as «low-of»};
+ghost use Rattle.numbers.specs.Numbers.{fits, unfitPart, low as «low-of»};
 
 // Whether every number is a byte.
 fn all_bytes(n: &[u32]) -> bool
@@ -49,18 +51,29 @@ fn bytes_in(n: &[u32], a: usize, b: usize) -> bool
     all_bytes(&n[from..b])
 }
 
-// Whether each number fits its place's type.
-pub fn fits(n: &[u32]) -> bool
+// The lowest part of the state with a number that does not fit its place's type; 0 exactly where every
+// number fits.
+pub fn unfit_part(n: &[u32]) -> u8
     requires { ⌜ length (now n) ≡ stateCount ⌝ }
-    ensures { λ r. ⌜ r ≡ «do-fit» (now (n .entry)) ⌝ }
+    ensures lowest { λ r. ⌜ r ≡ unfitPart (now (n .entry)) ⌝ }
+    ensures none { λ r. ⌜ fits (now (n .entry)) ≡ eqb r 0 ⌝ }
 {
-    let latches = bytes_in(n, 347, 348);
-    let receiver = both(bytes_in(n, 340, 345), latches);
-    let receive = both(bytes_in(n, 82, 338), receiver);
-    let frame = both(bytes_in(n, 79, 80), receive);
-    let transmit = both(bytes_in(n, 14, 77), frame);
-    let settings = both(bytes_in(n, 7, 12), transmit);
-    both(bytes_in(n, 1, 4), settings)
+    if !bytes_in(n, 1, 4) {
+        return part::REGISTERS;
+    }
+    if !bytes_in(n, 7, 12) {
+        return part::SETTINGS;
+    }
+    if !both(bytes_in(n, 14, 77), bytes_in(n, 79, 80)) {
+        return part::TRANSMIT;
+    }
+    if !both(bytes_in(n, 82, 338), bytes_in(n, 340, 342)) {
+        return part::RECEIVE;
+    }
+    if !both(bytes_in(n, 343, 345), bytes_in(n, 347, 348)) {
+        return part::LATCHES;
+    }
+    part::NONE
 }
 
 // The registers.

@@ -1,10 +1,10 @@
 -- The numbers of a state, in the protocol's order, and the state that such numbers make. Places count from 1.
 use Prim.Native.Nat.{ℕ, zero, suc, _+_, _-_, _*_, _%_}
-use mathlib.Core.Bool.{Bool}
+use mathlib.Core.Bool.{Bool, _&&_}
 use mathlib.Core.List.{List, [], _∷_, _++_, map}
 use lib.ListN.{take, drop, getD}
 use lib.Dec.{leb}
-use Rattle.flag.specs.Flag.{every, allOf}
+use Rattle.flag.specs.Flag.{every, firstFailing, allOf}
 use Rattle.queue.specs.declared.ByteQueue.{ByteQueue}
 use Rattle.queue.specs.declared.Entry.{Entry}
 use Rattle.queue.specs.declared.EntryQueue.{EntryQueue}
@@ -91,15 +91,24 @@ isByte n = leb n 255
 unfoldable pub bytesIn : ℕ → ℕ → List ℕ → Bool
 bytesIn a b ns = allOf isByte (places a b ns)
 
--- the places that hold bytes: all but divisor, k, the counts, L, position and idle count
-abbrev pub byteTests : List ℕ → List Bool
-byteTests ns =
-    bytesIn 1 4 ns ∷ bytesIn 7 12 ns ∷ bytesIn 14 77 ns ∷ bytesIn 79 80 ns ∷ bytesIn 82 338 ns ∷ bytesIn 340 345 ns
-    ∷ bytesIn 347 348 ns ∷ []
+-- the five parts of the state in their order: whether the part's numbers fit their places' types. Bytes are all but
+-- divisor, k, the counts, L, position and idle count
+abbrev pub fitting : List ℕ → List Bool
+fitting ns =
+    bytesIn 1 4 ns  -- part 1: places 1..6
+    ∷ bytesIn 7 12 ns  -- part 2: places 7..12
+    ∷ (bytesIn 14 77 ns && bytesIn 79 80 ns)  -- part 3: places 13..80
+    ∷ (bytesIn 82 338 ns && bytesIn 340 342 ns)  -- part 4: places 81..342
+    ∷ (bytesIn 343 345 ns && bytesIn 347 348 ns)  -- part 5: places 343..348
+    ∷ []
 
 -- every number fits its place's type
 unfoldable pub fits : List ℕ → Bool
-fits ns = every (byteTests ns)
+fits ns = every (fitting ns)
+
+-- the lowest part with a number that does not fit; 0 exactly where every number fits
+unfoldable pub unfitPart : List ℕ → ℕ
+unfitPart ns = firstFailing 1 (fitting ns)
 
 -- The state of numbers, each cut to its place's type.
 
