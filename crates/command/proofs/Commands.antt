@@ -18,9 +18,9 @@ pub found : (w s : List ℕ) (ws : List (List ℕ)) → same w s ≡ true → lo
 found w s ws t = ap (λ (v : List ℕ). lookUp table v ws) (sym (same-equal w s t))
 
 -- No row: the words that take no number are none of these.
-pub no-bare : (w : List ℕ) → same w (text "tick") ≡ false → same w (text "pins") ≡ false → same w (text "state") ≡ false → same w (text "fresh") ≡ false → same w (text "reset") ≡ false → same w (text "forecast") ≡ false → Command.Bad ≡ lookUp table w []
+pub no-bare : (w : List ℕ) → same w (text "tick") ≡ false → same w (text "pins") ≡ false → same w (text "state") ≡ false → same w (text "fresh") ≡ false → same w (text "reset") ≡ false → same w (text "forecast") ≡ false → same w (text "part") ≡ false → Command.Bad ≡ lookUp table w []
 unfolding lookUp table areNumbers allNumbers
-no-bare w a b c d e f = simp (a, b, c, d, e, f, cond-same)
+no-bare w a b c d e f g = simp (a, b, c, d, e, f, g, cond-same)
 
 -- The words that take one number.
 

@@ -112,6 +112,7 @@ table =
     ∷ row "level" (one 0 4294967295 Command.Level)
     ∷ row "run" (one 0 4294967295 Command.Run)
     ∷ row "replay" (listed 65535 mostRecords Command.Replay)
+    ∷ row "part" (bare Command.Part)
     ∷ []
 
 -- the row of a word
@@ -144,6 +145,7 @@ beside Command.Forecast = 0
 beside (Command.Level t) = 0
 beside (Command.Run n) = 0
 beside (Command.Replay v n) = n + 1
+beside Command.Part = 0
 beside Command.Bad = 0
 
 -- those numbers

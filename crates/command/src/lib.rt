@@ -43,6 +43,7 @@ pub enum Command {
     Level(u32),
     Run(u32),
     Replay(u32, usize),
+    Part,
     Bad,
 }
 
@@ -68,6 +69,9 @@ fn bare(word: &[u8]) -> Command
     }
     if words::same(word, b"forecast") {
         return Command::Forecast;
+    }
+    if words::same(word, b"part") {
+        return Command::Part;
     }
     Command::Bad
 }

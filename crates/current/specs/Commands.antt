@@ -14,8 +14,8 @@ use Rattle.current.specs.declared.Session.{Session}
 use Rattle.text.specs.Text.{text}
 use Rattle.text.specs.Decimal.{lineOf}
 use Rattle.outcome.specs.Outcome.{outcomeLine}
-use Rattle.reply.specs.Reply.{stepOf, stepNumbers, lookNumbers, forecastNumbers, levelNumbers, runNumbers}
-use Rattle.current.specs.Current.{held, loadedOf, currentNumbers, moved}
+use Rattle.reply.specs.Reply.{stepOf, stepNumbers, lookNumbers, forecastNumbers, levelNumbers, partNumbers, runNumbers}
+use Rattle.current.specs.Current.{held, loadedOf, currentNumbers, currentPart, moved}
 
 -- replay of a line's records, which follow the version in its numbers ns
 abbrev pub replayedOf : State → ℕ → List ℕ → Replayed
@@ -32,6 +32,7 @@ saidOf s kept ns Command.Forecast = lineOf (forecastNumbers (forecastOf (s .stat
 saidOf s kept ns (Command.Level t) = lineOf (levelNumbers (levelOf (s .state) t))
 saidOf s kept ns (Command.Run n) = lineOf (runNumbers (runOf (s .state) n))
 saidOf s kept ns (Command.Replay v n) = outcomeLine (replayedOf (s .state) v ns .outcome)
+saidOf s kept ns Command.Part = lineOf (partNumbers (currentPart s))
 saidOf s kept ns Command.Bad = text "bad\n"
 
 -- The current state after a command.
@@ -45,6 +46,7 @@ nextOf s ns Command.Forecast = s
 nextOf s ns (Command.Level t) = s
 nextOf s ns (Command.Run n) = moved s (runOf (s .state) n .state)
 nextOf s ns (Command.Replay v n) = moved s (replayedOf (s .state) v ns .state)
+nextOf s ns Command.Part = s
 nextOf s ns Command.Bad = s
 
 -- The numbers loaded last, after a command.
@@ -58,6 +60,7 @@ keptOf kept ns Command.Forecast = kept
 keptOf kept ns (Command.Level t) = kept
 keptOf kept ns (Command.Run n) = kept
 keptOf kept ns (Command.Replay v n) = kept
+keptOf kept ns Command.Part = kept
 keptOf kept ns Command.Bad = kept
 
 -- a command that leaves both as they are
@@ -71,4 +74,5 @@ changesNothing Command.Forecast = true
 changesNothing (Command.Level t) = true
 changesNothing (Command.Run n) = false
 changesNothing (Command.Replay v n) = false
+changesNothing Command.Part = true
 changesNothing Command.Bad = true

@@ -1,30 +1,42 @@
 -- The current state, and its numbers.
 use Prim.Native.Nat.{ℕ, _*_}
-use mathlib.Core.Bool.{true, false, cond}
+use mathlib.Core.Bool.{cond}
 use mathlib.Core.List.{List}
+use lib.Dec.{eqb}
+use Rattle.flag.specs.Flag.{firstFailing, bothOf}
 use Rattle.device.specs.declared.State.{State}
 use Rattle.device.specs.State.{freshOf, withRegisters, withIer}
+use Rattle.device.specs.Ranges.{parts, partOf}
 use Rattle.current.specs.declared.Session.{Session}
-use Rattle.numbers.specs.Numbers.{stateCount, numbersOf, fits, stateOf}
+use Rattle.numbers.specs.Numbers.{stateCount, numbersOf, fitting, fits, stateOf}
 
 abbrev pub held : State → Session
-held s = record { state = s; fits = true }
+held s = record { state = s; unfit = 0 }
 
 -- the state that stands for numbers which do not fit: every call refuses it
 abbrev pub unfitState : State
 unfitState = withRegisters freshOf (withIer (freshOf .registers) 255)
 
+-- the part that is bad of loaded numbers: one that its place's type can't hold breaks that place's range, and a lower
+-- part that is broken too still stands
+unfoldable pub loadedPart : List ℕ → ℕ
+loadedPart ns = firstFailing 1 (bothOf (fitting ns) (parts (stateOf ns)))
+
 -- after `load` of these numbers
 unfoldable pub loadedOf : List ℕ → Session
-loadedOf ns = cond (fits ns) (held (stateOf ns)) (record { state = unfitState; fits = false })
+loadedOf ns = cond (fits ns) (held (stateOf ns)) (record { state = unfitState; unfit = loadedPart ns })
 
 -- the numbers of the current state, of which kept were loaded last
 unfoldable pub currentNumbers : Session → List ℕ → List ℕ
-currentNumbers s kept = cond (s .fits) (numbersOf (s .state)) kept
+currentNumbers s kept = cond (eqb (s .unfit) 0) (numbersOf (s .state)) kept
+
+-- the part of the current state that is bad
+unfoldable pub currentPart : Session → ℕ
+currentPart s = cond (eqb (s .unfit) 0) (partOf (s .state)) (s .unfit)
 
 -- with another state of the model
 abbrev pub moved : Session → State → Session
-moved s t = record { state = t; fits = s .fits }
+moved s t = record { state = t; unfit = s .unfit }
 
 -- the longest answer, `state`'s: ten digits and the byte after them for each number
 abbrev pub longestAnswer : ℕ

@@ -2,11 +2,15 @@
 // answer into a lent buffer.
 use command::Call;
 use device::State;
+use flag::both;
+use sheet::part::NONE;
 use text::decimal;
 ghost use mathlib.Core.Path.{_≡_};
+ghost use mathlib.Core.Bool.{cond, _&&_};
 ghost use mathlib.Core.List.{[], _∷_};
 ghost use Prim.Native.Nat.{_+_, _≤_};
 ghost use lib.ListN.{length};
+ghost use lib.Dec.{ltb};
 ghost use Rattle.device.specs.State.{freshOf};
 ghost use Rattle.device.specs.Forecast.{runOf};
 ghost use Rattle.capture.specs.Replay.{replayOf};
@@ -14,17 +18,17 @@ ghost use Rattle.text.specs.Text.{Appended};
 ghost use Rattle.text.specs.Decimal.{lineOf};
 ghost use Rattle.numbers.specs.Numbers.{stateCount};
 ghost use Rattle.outcome.specs.Outcome.{outcomeLine};
-ghost use Rattle.reply.specs.Reply.{stepOf, stepNumbers, runNumbers};
-ghost use Rattle.current.specs.Current.{held, unfitState, loadedOf, currentNumbers, longestAnswer, moved};
+ghost use Rattle.reply.specs.Reply.{stepOf, stepNumbers, partNumbers, runNumbers};
+ghost use Rattle.current.specs.Current.{held, unfitState, loadedOf, currentNumbers, currentPart, longestAnswer, moved};
 
 // The longest answer: the numbers of a state, each of ten digits with a space or the newline after it.
 pub const LONGEST_ANSWER: usize = 11 * numbers::COUNT;
 
 // The current state. Where loaded numbers do not fit the model's types, it is one that every call
-// refuses, and the numbers are kept apart.
+// refuses, the numbers are kept apart, and `unfit` is their part that is bad; else `unfit` is 0.
 pub struct Session {
     pub state: State,
-    pub fits: bool,
+    pub unfit: u8,
 }
 
 // The current state after a command, and the end of its answer in the buffer.
@@ -39,12 +43,12 @@ pub fn start() -> Session
 {
     Session {
         state: uart::fresh(),
-        fits: true,
+        unfit: NONE,
     }
 }
 
 // A state that every call refuses.
-fn unfit() -> State
+fn unfit_state() -> State
     ensures { λ r. ⌜ r ≡ unfitState ⌝ }
 {
     let mut s = uart::fresh();
@@ -52,20 +56,30 @@ fn unfit() -> State
     s
 }
 
+// The lower of two parts that are bad; the second is 0 where there is none.
+fn lower(unfit: u8, part: u8) -> u8
+    ensures { λ r. ⌜ r ≡ cond (ltb 0 part && ltb part unfit) part unfit ⌝ }
+{
+    if both(NONE < part, part < unfit) {
+        return part;
+    }
+    unfit
+}
+
 // The current state after `load` of these numbers.
 fn loaded(n: &[u32]) -> Session
     requires { ⌜ length (now n) ≡ stateCount ⌝ }
     ensures { λ r. ⌜ r ≡ loadedOf (now (n .entry)) ⌝ }
 {
-    if load::fits(n) {
-        return Session {
-            state: load::state_of(n),
-            fits: true,
-        };
+    let unfit = load::unfit_part(n);
+    let state = load::state_of(n);
+    if unfit == NONE {
+        return Session { state, unfit };
     }
+    let part = ranges::part_of(state);
     Session {
-        state: unfit(),
-        fits: false,
+        state: unfit_state(),
+        unfit: lower(unfit, part),
     }
 }
 
@@ -75,13 +89,35 @@ pub fn put_current(s: Session, kept: &[u32], out: &mut [u8], at: usize) -> usize
     requires { ⌜ at + longestAnswer ≤ length (now out) ⌝ }
     ensures { λ r. ⌜ Appended (now (out .entry)) at (lineOf (currentNumbers s (now (kept .entry)))) (now (out .exit)) r ⌝ }
 {
-    if s.fits {
+    if s.unfit == NONE {
         let mut n = [0u32; numbers::COUNT];
         let t = s.state;
         numbers::put_state(t, &mut n);
         return decimal::put_line(&n, out, at);
     }
     decimal::put_line(kept, out, at)
+}
+
+// The part of the current state that is bad.
+fn bad_part(s: Session) -> u8
+    ensures { λ r. ⌜ r ≡ currentPart s ⌝ }
+{
+    let part = s.unfit;
+    if part != NONE {
+        return part;
+    }
+    let t = s.state;
+    ranges::part_of(t)
+}
+
+// Puts whether a part of the current state is bad, and which.
+pub fn put_part(s: Session, out: &mut [u8], at: usize) -> usize
+    requires { ⌜ at + 22 ≤ length (now out) ⌝ }
+    ensures { λ r. ⌜ Appended (now (out .entry)) at (lineOf (partNumbers (currentPart s))) (now (out .exit)) r ⌝ }
+{
+    let part = bad_part(s);
+    let number = flag::bit(NONE < part);
+    reply::put_pair(number, numbers::wide(part), out, at)
 }
 
 // Makes a step, and puts its answer.
@@ -98,7 +134,7 @@ pub fn stepped(s: Session, c: Call, out: &mut [u8], at: usize) -> Said
     Said {
         session: Session {
             state,
-            fits: s.fits,
+            unfit: s.unfit,
         },
         end,
     }
@@ -117,7 +153,7 @@ pub fn ran(s: Session, n: u32, out: &mut [u8], at: usize) -> Said
     Said {
         session: Session {
             state,
-            fits: s.fits,
+            unfit: s.unfit,
         },
         end,
     }
@@ -137,7 +173,7 @@ pub fn replayed(s: Session, version: u32, records: &[u32], out: &mut [u8], at: u
     Said {
         session: Session {
             state,
-            fits: s.fits,
+            unfit: s.unfit,
         },
         end,
     }

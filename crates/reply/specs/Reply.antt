@@ -1,6 +1,8 @@
 -- The calls and the numbers that they answer.
 use Prim.Native.Nat.{ℕ}
 use mathlib.Core.List.{List, [], _∷_}
+use lib.Dec.{ltb}
+use Rattle.flag.specs.Flag.{bitOf}
 use Rattle.device.specs.declared.Outputs.{Outputs}
 use Rattle.device.specs.declared.Answer.{Answer}
 use Rattle.device.specs.declared.Looked.{Looked}
@@ -40,6 +42,10 @@ forecastNumbers f = f .number ∷ f .ticks ∷ []
 -- NO LEVEL
 abbrev pub levelNumbers : Leveled → List ℕ
 levelNumbers l = l .number ∷ l .level ∷ []
+
+-- NO PART: 0 and 0, or 1 and the part that is bad
+abbrev pub partNumbers : ℕ → List ℕ
+partNumbers p = bitOf (ltb 0 p) ∷ p ∷ []
 
 -- NO USED
 abbrev pub runNumbers : Ran → List ℕ
