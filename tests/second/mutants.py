@@ -387,7 +387,7 @@ MUTANTS = [
     ("level not refused at t = 0", "model.c",
      "    uint32_t place;\n\n    if (number != UART_DONE)",
      "    uint32_t place;\n\n    if (number > UART_MALFORMED && t == 0u)\n"
-     "        return value(UART_DONE, transmitter_line(u));\n    if (number != UART_DONE)"),
+     "        return value(transmitter_line(u));\n    if (number != UART_DONE)"),
     ("5 only with L = 0", "model.c", "    if (u->tx_count != 0u && held(u))\n        return UART_HELD;",
      "    if (u->tx_count != 0u && u->frame_left == 0u && held(u))\n        return UART_HELD;"),
     ("5 without bytes queued", "model.c",
@@ -407,20 +407,20 @@ MUTANTS = [
      "    while (used < most) {\n        tick(u);\n        used++;\n        if (transmitter_empty(u))\n"
      "            break;\n    }"),
     ("run refused without clock", "model.c",
-     "        return value(UART_MALFORMED, 0u);\n    while",
-     "        return value(UART_MALFORMED, 0u);\n    if (forecast_number(u) != UART_DONE)\n"
-     "        return value(forecast_number(u), 0u);\n    while"),
+     "        return refuse_value(u, UART_MALFORMED);\n    while",
+     "        return refuse_value(u, UART_MALFORMED);\n    if (forecast_number(u) != UART_DONE)\n"
+     "        return refuse_value(u, forecast_number(u));\n    while"),
     ("2 before 1", "model.c",
-     "    uint32_t byte;\n\n    if (!uart_well_formed(u))\n        return refuse(UART_MALFORMED);\n"
-     "    if (address > ADDR_LAST)\n        return refuse(UART_BAD_ADDRESS);\n    byte",
-     "    uint32_t byte;\n\n    if (address > ADDR_LAST)\n        return refuse(UART_BAD_ADDRESS);\n"
-     "    if (!uart_well_formed(u))\n        return refuse(UART_MALFORMED);\n    byte"),
+     "    uint32_t byte;\n\n    if (!uart_well_formed(u))\n        return refuse(u, UART_MALFORMED);\n"
+     "    if (address > ADDR_LAST)\n        return refuse(u, UART_BAD_ADDRESS);\n    byte",
+     "    uint32_t byte;\n\n    if (address > ADDR_LAST)\n        return refuse(u, UART_BAD_ADDRESS);\n"
+     "    if (!uart_well_formed(u))\n        return refuse(u, UART_MALFORMED);\n    byte"),
     ("address taken modulo 8", "model.c",
-     "    if (address > ADDR_LAST)\n        return refuse(UART_BAD_ADDRESS);\n"
+     "    if (address > ADDR_LAST)\n        return refuse(u, UART_BAD_ADDRESS);\n"
      "    uart_do_write(u, address, byte);",
      "    uart_do_write(u, address & 7u, byte);"),
     ("modem pins masked", "model.c",
-     "    if (pins > MODEM_MASK)\n        return refuse(UART_BAD_LEVEL);", "    pins &= MODEM_MASK;"),
+     "    if (pins > MODEM_MASK)\n        return refuse(u, UART_BAD_LEVEL);", "    pins &= MODEM_MASK;"),
 
     # Ranges.
     ("range: IER", "model.c", "u->ier <= IER_MASK && ", "u->ier <= 255u && "),
@@ -547,7 +547,7 @@ MUTANTS = [
      "    if ((u->rx_format & LCR_STOP) != 0u && sample == 1u + width + parity_bits(u->rx_format))\n"
      "        return false;\n    return end_character(u, line);"),
     ("reset takes a malformed state", "model.c",
-     "    if (!uart_well_formed(u))\n        return refuse(UART_MALFORMED);\n    uart_do_reset(u);",
+     "    if (!uart_well_formed(u))\n        return refuse(u, UART_MALFORMED);\n    uart_do_reset(u);",
      "    uart_do_reset(u);"),
     ("fresh clears SIN", "model.c", "    u->sin = 1u;\n", "    u->sin = 0u;\n"),
     ("tick without divisor pulses", "model.c", "    if (u->divisor == 0u)\n        return;\n    u->k--;",
@@ -610,10 +610,10 @@ MUTANTS = [
     ("a tick more in each record", "capture.c", "uart_do_ticks(u, field);", "uart_do_ticks(u, field + 1u);"),
     ("no ticks as one", "capture.c", "uart_do_ticks(u, field);", "uart_do_ticks(u, field + !field);"),
     ("7 before 1", "capture.c",
-     "    if (!uart_well_formed(u))\n        return replay_refused(UART_MALFORMED, 0u);\n"
+     "    if (!uart_well_formed(u))\n        return malformed(uart_part(u));\n"
      "    if (version != CAPTURE_VERSION)\n        return replay_refused(CAPTURE_BAD_VERSION, 0u);\n",
      "    if (version != CAPTURE_VERSION)\n        return replay_refused(CAPTURE_BAD_VERSION, 0u);\n"
-     "    if (!uart_well_formed(u))\n        return replay_refused(UART_MALFORMED, 0u);\n"),
+     "    if (!uart_well_formed(u))\n        return malformed(uart_part(u));\n"),
     ("versions by their low byte", "capture.c", "    if (version != CAPTURE_VERSION)",
      "    if ((version & 255u) != CAPTURE_VERSION)"),
 
