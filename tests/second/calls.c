@@ -25,7 +25,7 @@ static const char help[] =
     "\n"
     "Takes calls from standard input, one to a line, and writes a line of answer for each:\n"
     "fresh, load V1 .. V348, state, reset, read A, write A B, sin V, modem V, tick, ticks N,\n"
-    "pins, forecast, level T, run N, replay V W..  Any other line is answered bad.\n"
+    "pins, forecast, level T, run N, replay V W.., part.  Any other line is answered bad.\n"
     "\n"
     "The exit status is 0, or 2 where an argument is unknown, or reading or writing failed.\n";
 
@@ -91,11 +91,16 @@ static void put_step(struct uart_answer a)
     put_numbers(numbers, sizeof numbers / sizeof numbers[0]);
 }
 
-static void put_value(struct uart_value v)
+static void put_pair(uint32_t number, uint32_t result)
 {
-    uint32_t numbers[] = { v.number, v.value };
+    uint32_t numbers[] = { number, result };
 
     put_numbers(numbers, sizeof numbers / sizeof numbers[0]);
+}
+
+static void put_value(struct uart_value v)
+{
+    put_pair(v.number, v.value);
 }
 
 /* ---- The calls ---- */
@@ -186,6 +191,14 @@ static void call_replay(void)
     out_used += replay_line(replay(&current, given[0], given + 1, given_count - 1), out + out_used);
 }
 
+/* The number and the part of any call on the current state. */
+static void call_part(void)
+{
+    struct uart_answer a = uart_look(&current);
+
+    put_pair(a.number, a.part);
+}
+
 /*
  * A form: its word, how many numbers follow and the range of each, and how many
  * words of any 32 bits may come after these.
@@ -215,6 +228,7 @@ static const struct form forms[] = {
     { "fresh", 0, 0, 0, 0, call_fresh },
     { "reset", 0, 0, 0, 0, call_reset },
     { "replay", 1, 0, 65535, MOST_WORDS, call_replay },
+    { "part", 0, 0, 0, 0, call_part },
 };
 
 /* ---- Lines ---- */

@@ -49,15 +49,23 @@ static inline bool record_is_good(uint32_t record)
 
 static struct replay_answer differs(uint64_t place, uint32_t seen, uint32_t model)
 {
-    struct replay_answer answer = { REPLAY_DIFFERS, 0u, place, seen, model };
+    struct replay_answer answer = { REPLAY_DIFFERS, 0u, 0u, place, seen, model };
 
     return answer;
 }
 
 struct replay_answer replay_refused(uint32_t number, uint64_t place)
 {
-    struct replay_answer answer = { REPLAY_REFUSED, number, place, 0u, 0u };
+    struct replay_answer answer = { REPLAY_REFUSED, number, 0u, place, 0u, 0u };
 
+    return answer;
+}
+
+static struct replay_answer malformed(uint32_t part)
+{
+    struct replay_answer answer = replay_refused(UART_MALFORMED, 0u);
+
+    answer.part = part;
     return answer;
 }
 
@@ -87,7 +95,7 @@ static inline void step(struct uart *u, uint32_t record)
 
 struct replay_answer replay_records(struct uart *u, const uint32_t *records, size_t count)
 {
-    static const struct replay_answer agreed = { REPLAY_AGREED, 0u, 0u, 0u, 0u };
+    static const struct replay_answer agreed = { REPLAY_AGREED, 0u, 0u, 0u, 0u, 0u };
 
     for (size_t i = 0; i < count; i++) {
         uint32_t record = records[i];
@@ -111,7 +119,7 @@ struct replay_answer replay(struct uart *u, uint32_t version, const uint32_t *re
                             size_t count)
 {
     if (!uart_well_formed(u))
-        return replay_refused(UART_MALFORMED, 0u);
+        return malformed(uart_part(u));
     if (version != CAPTURE_VERSION)
         return replay_refused(CAPTURE_BAD_VERSION, 0u);
     return replay_records(u, records, count);

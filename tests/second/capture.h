@@ -22,6 +22,7 @@ enum replay_outcome { REPLAY_AGREED, REPLAY_DIFFERS, REPLAY_REFUSED };
 struct replay_answer {
     enum replay_outcome outcome;
     uint32_t number; /* of a refusal */
+    uint32_t part;   /* of the state, the bad one beside number 1 */
     uint64_t place;
     uint32_t seen;  /* the byte of the differing read, in the capture */
     uint32_t model; /* and what the model would answer */

@@ -2,8 +2,8 @@
 
 Scripts: random well-formed states near boundaries with steps after them, sequences as a driver would
 write them, characters on SIN with and without errors, forecasts with levels and runs around them,
-replays, damaged states, lines of wrong form. Captures: the same steps as records, most of them as
-they are, the others damaged.
+replays, states damaged in one part or two, lines of wrong form. Captures: the same steps as records,
+most of them as they are, the others damaged.
 
 pick(n) gives a random number from 0 to n - 1. The bytes of reads in records come from a recorder.
 """
@@ -127,7 +127,7 @@ BAD_LINES = (
     "load " + "0 " * st.PLACES + "0", "load " + "0 " * (st.PLACES - 1) + "4294967296", "x" * 4000,
     "level 00000000000000000001", "\xff", "tick\x0b", "quit", "# note",
     "replay", "replay 65536", "replay 1 ", "replay 01", "replay 1 4294967296", "replay 1 00",
-    "replay 1" + " 0" * 1025, "replay 1" + " 4294967295" * 1025,
+    "replay 1" + " 0" * 1025, "replay 1" + " 4294967295" * 1025, "part 0", "part ", "parts",
 )
 
 
@@ -146,8 +146,10 @@ def any_op(pick, s):
         return "modem %d" % pick(16)
     if chance < 57:
         return value_op(pick, s)
-    if chance < 59:
+    if chance < 58:
         return "pins"
+    if chance < 59:
+        return "part"
     if chance < 60:
         return "state"
     if chance < 61:
@@ -324,17 +326,13 @@ MORE = (1, 2, 16, 256, 256, 65536, 65536, 1 << 24, 1 << 31, BIG)
 
 
 def damaged_segment(pick, lines):
-    """A state that is not well formed, in one range or in one place too wide."""
-    if pick(4):
-        damage = st.DAMAGES[pick(len(st.DAMAGES))][1]
-        s = None
-        while s is None:  # every damage applies to some states
-            s = damage(st.random_state(pick))
-    else:
-        s = st.random_state(pick)
+    """A state that is not well formed, in one range or two, in one place too wide, or in both."""
+    chance = pick(8)
+    s = st.damaged_state(pick)[0] if chance < 6 else st.random_state(pick)
+    if chance > 4:
         place = st.SINGLES[pick(len(st.SINGLES))] if pick(4) else pick(st.PLACES)
         st.beyond_width(s, place, MORE[pick(len(MORE))])
-    lines.append(st.load_line(s))
+    lines += (st.load_line(s), "part")
     for _ in range(1 + pick(3)):
         chance = pick(8)
         if chance < 4:
@@ -356,7 +354,7 @@ def refused_segment(pick, lines):
         s[st.MODEM] &= ~1
         st.settle(s)
     if pick(3) == 0:
-        s = st.DAMAGES[pick(len(st.DAMAGES))][1](s) or s
+        s = st.EDGES[pick(len(st.EDGES))].damage(s) or s
     lines.append(st.load_line(s))
     lines += ("forecast", "level 0", "level %d" % level_time(pick, s))
     lines.append(refused_op(pick))

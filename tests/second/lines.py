@@ -56,6 +56,10 @@ CASES += [
     (LONGEST + b"1\n", BAD), (LONGEST[:-1] + b"6\n", BAD),
     (b"replay 1" + b" 4294967295" * MOST_WORDS + b"\ntick\n", b"refused 8 0\n" + TICK),
 ]
+CASES += [
+    (b"part\n", b"0 0\n"), (b"part", b"0 0\n"), (LARGEST + b"\npart\n", b"0\n1 1\n"),
+    (b"part 0\n", BAD), (b"part 1\n", BAD), (b"part \n", BAD), (b" part\n", BAD), (b"parts\n", BAD),
+]
 for length in (3831, 3832, 3833, 3834, 11275, 11276, 11277, 65535, 65536, 65537, 131072):
     CASES += [(b"y" * length, BAD), (b"y" * length + b"\n", BAD),
               (b"y" * length + b"\ntick", BAD + TICK)]

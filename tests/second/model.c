@@ -1,6 +1,6 @@
 /*
- * A model of one TL16C750 UART, written from document 01. (h) marks its house
- * rules, as there.
+ * A model of one TL16C750 UART, written from document 01; the parts of a state
+ * from document 02, request b. (h) marks house rules, as in document 01.
  */
 #include "model.h"
 
@@ -366,11 +366,25 @@ static bool flow_in_range(const struct uart *u)
     return u->rts_hold == hold_by_rule(u);
 }
 
+/* A range that joins two parts is looked at with the later one, when the earlier is good. */
+uint32_t uart_part(const struct uart *u)
+{
+    if (!registers_in_range(u) || !clock_in_range(u))
+        return UART_PART_REGISTERS;
+    if (!fifo_and_pins_in_range(u))
+        return UART_PART_FIFO;
+    if (!transmit_queue_in_range(u) || !frame_in_range(u))
+        return UART_PART_TRANSMIT;
+    if (!receive_queue_in_range(u) || !receiver_in_range(u))
+        return UART_PART_RECEIVE;
+    if (!latches_in_range(u) || !flow_in_range(u))
+        return UART_PART_LATCHES;
+    return UART_PART_NONE;
+}
+
 bool uart_well_formed(const struct uart *u)
 {
-    return registers_in_range(u) && clock_in_range(u) && fifo_and_pins_in_range(u) &&
-           transmit_queue_in_range(u) && receive_queue_in_range(u) && frame_in_range(u) &&
-           receiver_in_range(u) && latches_in_range(u) && flow_in_range(u);
+    return uart_part(u) == UART_PART_NONE;
 }
 
 /* ---- What ends each step ---- */
@@ -972,11 +986,13 @@ void uart_do_ticks(struct uart *u, uint32_t count)
 
 /* ---- The calls ---- */
 
-static struct uart_answer refuse(uint32_t number)
+/* The numbers above 1 are given on well-formed states alone, whose part is 0. */
+static struct uart_answer refuse(const struct uart *u, uint32_t number)
 {
     struct uart_answer answer = { 0 };
 
     answer.number = number;
+    answer.part = uart_part(u);
     return answer;
 }
 
@@ -985,14 +1001,22 @@ static struct uart_answer done(const struct uart *u, uint32_t byte)
     struct uart_answer answer;
 
     answer.number = UART_DONE;
+    answer.part = UART_PART_NONE;
     answer.byte = byte;
     answer.pins = output_pins(u);
     return answer;
 }
 
-static struct uart_value value(uint32_t number, uint32_t v)
+static struct uart_value refuse_value(const struct uart *u, uint32_t number)
 {
-    struct uart_value result = { number, v };
+    struct uart_value result = { number, uart_part(u), 0u };
+
+    return result;
+}
+
+static struct uart_value value(uint32_t v)
+{
+    struct uart_value result = { UART_DONE, UART_PART_NONE, v };
 
     return result;
 }
@@ -1000,7 +1024,7 @@ static struct uart_value value(uint32_t number, uint32_t v)
 struct uart_answer uart_reset(struct uart *u)
 {
     if (!uart_well_formed(u))
-        return refuse(UART_MALFORMED);
+        return refuse(u, UART_MALFORMED);
     uart_do_reset(u);
     return done(u, 0u);
 }
@@ -1010,9 +1034,9 @@ struct uart_answer uart_read(struct uart *u, uint32_t address)
     uint32_t byte;
 
     if (!uart_well_formed(u))
-        return refuse(UART_MALFORMED);
+        return refuse(u, UART_MALFORMED);
     if (address > ADDR_LAST)
-        return refuse(UART_BAD_ADDRESS);
+        return refuse(u, UART_BAD_ADDRESS);
     byte = uart_peek(u, address);
     uart_end_read(u, address, byte);
     return done(u, byte);
@@ -1021,9 +1045,9 @@ struct uart_answer uart_read(struct uart *u, uint32_t address)
 struct uart_answer uart_write(struct uart *u, uint32_t address, uint8_t byte)
 {
     if (!uart_well_formed(u))
-        return refuse(UART_MALFORMED);
+        return refuse(u, UART_MALFORMED);
     if (address > ADDR_LAST)
-        return refuse(UART_BAD_ADDRESS);
+        return refuse(u, UART_BAD_ADDRESS);
     uart_do_write(u, address, byte);
     return done(u, 0u);
 }
@@ -1031,9 +1055,9 @@ struct uart_answer uart_write(struct uart *u, uint32_t address, uint8_t byte)
 struct uart_answer uart_set_sin(struct uart *u, uint32_t level)
 {
     if (!uart_well_formed(u))
-        return refuse(UART_MALFORMED);
+        return refuse(u, UART_MALFORMED);
     if (level > 1u)
-        return refuse(UART_BAD_LEVEL);
+        return refuse(u, UART_BAD_LEVEL);
     uart_do_sin(u, level);
     return done(u, 0u);
 }
@@ -1041,9 +1065,9 @@ struct uart_answer uart_set_sin(struct uart *u, uint32_t level)
 struct uart_answer uart_set_modem(struct uart *u, uint32_t pins)
 {
     if (!uart_well_formed(u))
-        return refuse(UART_MALFORMED);
+        return refuse(u, UART_MALFORMED);
     if (pins > MODEM_MASK)
-        return refuse(UART_BAD_LEVEL);
+        return refuse(u, UART_BAD_LEVEL);
     uart_do_modem(u, pins);
     return done(u, 0u);
 }
@@ -1057,7 +1081,7 @@ struct uart_answer uart_tick(struct uart *u)
 struct uart_answer uart_ticks(struct uart *u, uint32_t count)
 {
     if (!uart_well_formed(u))
-        return refuse(UART_MALFORMED);
+        return refuse(u, UART_MALFORMED);
     uart_do_ticks(u, count);
     return done(u, 0u);
 }
@@ -1065,7 +1089,7 @@ struct uart_answer uart_ticks(struct uart *u, uint32_t count)
 struct uart_answer uart_look(const struct uart *u)
 {
     if (!uart_well_formed(u))
-        return refuse(UART_MALFORMED);
+        return refuse(u, UART_MALFORMED);
     return done(u, 0u);
 }
 
@@ -1100,11 +1124,11 @@ struct uart_value uart_forecast(const struct uart *u)
     uint32_t pulses;
 
     if (number != UART_DONE)
-        return value(number, 0u);
+        return refuse_value(u, number);
     pulses = pulses_left(u);
     if (pulses == 0u)
-        return value(UART_DONE, 0u);
-    return value(UART_DONE, u->k + (pulses - 1u) * u->divisor);
+        return value(0u);
+    return value(u->k + (pulses - 1u) * u->divisor);
 }
 
 /*
@@ -1136,12 +1160,12 @@ struct uart_value uart_level(const struct uart *u, uint32_t t)
     uint32_t place;
 
     if (number != UART_DONE)
-        return value(number, 0u);
+        return refuse_value(u, number);
     if (pulses_left(u) == 0u || t < u->k)
         place = 0u;
     else
         place = 1u + (t - u->k) / u->divisor;
-    return value(UART_DONE, level_at_place(u, place));
+    return value(level_at_place(u, place));
 }
 
 /* At most `most` ticks; stops as soon as LSR6 would be 1. Answers the ticks used. */
@@ -1150,10 +1174,10 @@ struct uart_value uart_run(struct uart *u, uint32_t most)
     uint32_t used = 0u;
 
     if (!uart_well_formed(u))
-        return value(UART_MALFORMED, 0u);
+        return refuse_value(u, UART_MALFORMED);
     while (used < most && !transmitter_empty(u)) {
         tick(u);
         used++;
     }
-    return value(UART_DONE, used);
+    return value(used);
 }

@@ -19,6 +19,14 @@
 #define UART_NO_CLOCK 4u
 #define UART_HELD 5u
 
+/* The parts of a state, for the one that breaks a range (document 02, request b). */
+#define UART_PART_NONE 0u
+#define UART_PART_REGISTERS 1u /* registers, divisor, k */
+#define UART_PART_FIFO 2u      /* FIFO settings and pins */
+#define UART_PART_TRANSMIT 3u  /* transmit queue and frame */
+#define UART_PART_RECEIVE 4u   /* receive queue and receiver */
+#define UART_PART_LATCHES 5u   /* latches, OE, idle count, change bits, hold */
+
 /* What the receiver is doing. */
 #define UART_RX_IDLE 0u
 #define UART_RX_WAIT_MARK 1u
@@ -89,9 +97,13 @@ struct uart_pins {
     uint32_t intrpt;
 };
 
-/* The answer of a step: the number, the byte read, the pins after the step. */
+/*
+ * The answer of a step: the number, the byte read, the pins after the step. The
+ * part, here and below, is the bad one beside number 1, and 0 beside every other.
+ */
 struct uart_answer {
     uint32_t number;
+    uint32_t part;
     uint32_t byte;
     struct uart_pins pins;
 };
@@ -99,6 +111,7 @@ struct uart_answer {
 /* The answer of forecast (T), level (the level) and run (the ticks used). */
 struct uart_value {
     uint32_t number;
+    uint32_t part;
     uint32_t value;
 };
 
@@ -116,7 +129,13 @@ void uart_do_sin(struct uart *u, uint32_t level);
 void uart_do_modem(struct uart *u, uint32_t pins);
 void uart_do_ticks(struct uart *u, uint32_t count);
 
-/* Whether a state obeys every range of document 01, section "The state". */
+/*
+ * The lowest part of a state that breaks a range of document 01, section "The
+ * state", or 0. A range that joins two parts counts for the later one.
+ */
+uint32_t uart_part(const struct uart *u);
+
+/* Whether a state obeys every range: no part is bad. */
 bool uart_well_formed(const struct uart *u);
 
 /*

@@ -1,11 +1,12 @@
 #!/usr/bin/env python3
 """Breaks one rule of the model at a time and asks whether compare.py finds it.
 
-usage: mutants.py [--calls N] [--captures N] [--seed S] [--only TEXT]
+usage: mutants.py [--calls N] [--captures N] [--seed S] [--only TEXT] [--stored]
 
 Each mutant is a change of text in one C file. It is built in a folder of its own
 beside the unchanged programs; compare.py has to find a difference within the
-given calls and captures. Prints for each mutant where it was found.
+given calls and captures. With --stored the stored script of `calls` has to find it
+instead. Prints for each mutant where it was found.
 """
 
 import argparse
@@ -15,10 +16,34 @@ import subprocess
 import sys
 import tempfile
 
+import ask
+from compare import first_difference
+
 HERE = os.path.dirname(os.path.abspath(__file__))
 PROGRAMS = ("calls", "replay")
 MODEL = ("model.c", "capture.c", "stream.c", "arguments.c")
 HEADERS = ("model.h", "capture.h", "stream.h", "arguments.h")
+STORED = os.path.join(HERE, "..", "..", "crates", "calls")
+
+# Where uart_part looks at each part.
+PART_1 = "    if (!registers_in_range(u) || !clock_in_range(u))\n        return UART_PART_REGISTERS;\n"
+PART_2 = "    if (!fifo_and_pins_in_range(u))\n        return UART_PART_FIFO;\n"
+PART_3 = "    if (!transmit_queue_in_range(u) || !frame_in_range(u))\n        return UART_PART_TRANSMIT;\n"
+PART_4 = "    if (!receive_queue_in_range(u) || !receiver_in_range(u))\n        return UART_PART_RECEIVE;\n"
+PART_5 = "    if (!latches_in_range(u) || !flow_in_range(u))\n        return UART_PART_LATCHES;\n"
+
+
+def also(part, broken):
+    """The part with one more range, which is broken where the text says."""
+    return part.replace("))\n", ") || %s)\n" % broken)
+
+
+def too_wide_is(part):
+    """Part 1 after a look at each place for a number too wide, whose part is this."""
+    return ("    for (uint32_t i = 0u; i < UART_STATE_PLACES; i++)\n"
+            "        if ((&u->ier)[i] > 255u && i != 4u && i != 5u && i != 345u)\n"
+            "            return %s;\n" % part) + PART_1
+
 
 # Name, file, text, text in its place. The text stands exactly once in the file.
 MUTANTS = [
@@ -387,7 +412,7 @@ MUTANTS = [
     ("level not refused at t = 0", "model.c",
      "    uint32_t place;\n\n    if (number != UART_DONE)",
      "    uint32_t place;\n\n    if (number > UART_MALFORMED && t == 0u)\n"
-     "        return value(UART_DONE, transmitter_line(u));\n    if (number != UART_DONE)"),
+     "        return value(transmitter_line(u));\n    if (number != UART_DONE)"),
     ("5 only with L = 0", "model.c", "    if (u->tx_count != 0u && held(u))\n        return UART_HELD;",
      "    if (u->tx_count != 0u && u->frame_left == 0u && held(u))\n        return UART_HELD;"),
     ("5 without bytes queued", "model.c",
@@ -407,20 +432,20 @@ MUTANTS = [
      "    while (used < most) {\n        tick(u);\n        used++;\n        if (transmitter_empty(u))\n"
      "            break;\n    }"),
     ("run refused without clock", "model.c",
-     "        return value(UART_MALFORMED, 0u);\n    while",
-     "        return value(UART_MALFORMED, 0u);\n    if (forecast_number(u) != UART_DONE)\n"
-     "        return value(forecast_number(u), 0u);\n    while"),
+     "        return refuse_value(u, UART_MALFORMED);\n    while",
+     "        return refuse_value(u, UART_MALFORMED);\n    if (forecast_number(u) != UART_DONE)\n"
+     "        return refuse_value(u, forecast_number(u));\n    while"),
     ("2 before 1", "model.c",
-     "    uint32_t byte;\n\n    if (!uart_well_formed(u))\n        return refuse(UART_MALFORMED);\n"
-     "    if (address > ADDR_LAST)\n        return refuse(UART_BAD_ADDRESS);\n    byte",
-     "    uint32_t byte;\n\n    if (address > ADDR_LAST)\n        return refuse(UART_BAD_ADDRESS);\n"
-     "    if (!uart_well_formed(u))\n        return refuse(UART_MALFORMED);\n    byte"),
+     "    uint32_t byte;\n\n    if (!uart_well_formed(u))\n        return refuse(u, UART_MALFORMED);\n"
+     "    if (address > ADDR_LAST)\n        return refuse(u, UART_BAD_ADDRESS);\n    byte",
+     "    uint32_t byte;\n\n    if (address > ADDR_LAST)\n        return refuse(u, UART_BAD_ADDRESS);\n"
+     "    if (!uart_well_formed(u))\n        return refuse(u, UART_MALFORMED);\n    byte"),
     ("address taken modulo 8", "model.c",
-     "    if (address > ADDR_LAST)\n        return refuse(UART_BAD_ADDRESS);\n"
+     "    if (address > ADDR_LAST)\n        return refuse(u, UART_BAD_ADDRESS);\n"
      "    uart_do_write(u, address, byte);",
      "    uart_do_write(u, address & 7u, byte);"),
     ("modem pins masked", "model.c",
-     "    if (pins > MODEM_MASK)\n        return refuse(UART_BAD_LEVEL);", "    pins &= MODEM_MASK;"),
+     "    if (pins > MODEM_MASK)\n        return refuse(u, UART_BAD_LEVEL);", "    pins &= MODEM_MASK;"),
 
     # Ranges.
     ("range: IER", "model.c", "u->ier <= IER_MASK && ", "u->ier <= 255u && "),
@@ -506,6 +531,56 @@ MUTANTS = [
     ("range: hold at the trigger", "model.c", "    return u->rts_hold == hold_by_rule(u);",
      "    return u->rts_hold <= (auto_rts(u) && u->rx_count != 0u ? 1u : 0u);"),
 
+    # Parts.
+    ("part: the highest", "model.c", PART_1 + PART_2 + PART_3 + PART_4 + PART_5,
+     PART_5 + PART_4 + PART_3 + PART_2 + PART_1),
+    ("part: 2 before 1", "model.c", PART_1 + PART_2, PART_2 + PART_1),
+    ("part: 3 before 2", "model.c", PART_2 + PART_3, PART_3 + PART_2),
+    ("part: 4 before 3", "model.c", PART_3 + PART_4, PART_4 + PART_3),
+    ("part: 5 before 4", "model.c", PART_4 + PART_5, PART_5 + PART_4),
+    ("part: divisor and k in 2", "model.c", PART_1 + PART_2,
+     PART_1.replace(" || !clock_in_range(u)", "") + also(PART_2, "!clock_in_range(u)")),
+    ("part: modem pins in 1", "model.c", PART_1, also(PART_1, "u->modem_pins > MODEM_MASK")),
+    ("part: SIN in 1", "model.c", PART_1, also(PART_1, "u->sin > 1u")),
+    ("part: transmit count against the capacity in 2", "model.c", PART_2,
+     also(PART_2, "u->tx_count > capacity(u)")),
+    ("part: receive count against the capacity in 2", "model.c", PART_2,
+     also(PART_2, "u->rx_count > capacity(u)")),
+    ("part: receive count against the capacity in 3", "model.c", PART_3,
+     also(PART_3, "u->rx_count > capacity(u)")),
+    ("part: frame in 4", "model.c", PART_3 + PART_4,
+     PART_3.replace(" || !frame_in_range(u)", "") + also(PART_4, "!frame_in_range(u)")),
+    ("part: receiver in 5", "model.c", PART_4 + PART_5,
+     PART_4.replace(" || !receiver_in_range(u)", "") + also(PART_5, "!receiver_in_range(u)")),
+    ("part: OE in 4", "model.c", PART_4, also(PART_4, "u->overrun > 1u")),
+    ("part: transmit-empty latch on a queue in 3", "model.c", PART_3,
+     also(PART_3, "(u->tx_empty_latch == 1u && u->tx_count != 0u)")),
+    ("part: time-out latch without data in 4", "model.c", PART_4,
+     also(PART_4, "(u->timeout_latch == 1u && u->rx_count == 0u)")),
+    ("part: time-out latch with FIFO off in 2", "model.c", PART_2,
+     also(PART_2, "(u->timeout_latch == 1u && u->fifo_on == 0u && u->rx_count == 1u)")),
+    ("part: idle count without data in 4", "model.c", PART_4,
+     also(PART_4, "(u->idle_count != 0u && u->rx_count == 0u)")),
+    ("part: idle count with FIFO off in 2", "model.c", PART_2,
+     also(PART_2, "(u->idle_count != 0u && u->fifo_on == 0u && u->rx_count == 1u)")),
+    ("part: CTS change in 1", "model.c", PART_1,
+     also(PART_1, "(autoflow(u) && (u->changes & MODEM_CTS) != 0u)")),
+    ("part: CTS change in 2", "model.c", PART_2,
+     also(PART_2, "(autoflow(u) && (u->changes & MODEM_CTS) != 0u)")),
+    ("part: hold without auto-RTS in 1", "model.c", PART_1,
+     also(PART_1, "(u->rts_hold == 1u && !auto_rts(u))")),
+    ("part: hold without data in 4", "model.c", PART_4,
+     also(PART_4, "(u->rts_hold == 1u && auto_rts(u) && u->rx_count == 0u)")),
+    ("part: hold at the trigger in 4", "model.c", PART_4,
+     also(PART_4, "(u->rts_hold == 0u && hold_by_rule(u) == 1u)")),
+    ("part: 1 for every number too wide", "model.c", PART_1, too_wide_is("UART_PART_REGISTERS")),
+    ("part: a number too wide before a lower part", "model.c", PART_1,
+     too_wide_is("i < 6u ? 1u : i < 12u ? 2u : i < 80u ? 3u : i < 342u ? 4u : 5u")),
+    ("part: of a well-formed state", "calls.c", "    put_pair(a.number, a.part);",
+     "    put_pair(a.number, a.part != 0u ? a.part : 1u);"),
+    ("part: without its number", "calls.c", "    put_pair(a.number, a.part);",
+     "    put_pair(0u, a.part);"),
+
     # More of each kind.
     ("hold released by a raised trigger", "model.c",
      "    u->trigger_code = byte >> FCR_TRIGGER_SHIFT;\n",
@@ -547,7 +622,7 @@ MUTANTS = [
      "    if ((u->rx_format & LCR_STOP) != 0u && sample == 1u + width + parity_bits(u->rx_format))\n"
      "        return false;\n    return end_character(u, line);"),
     ("reset takes a malformed state", "model.c",
-     "    if (!uart_well_formed(u))\n        return refuse(UART_MALFORMED);\n    uart_do_reset(u);",
+     "    if (!uart_well_formed(u))\n        return refuse(u, UART_MALFORMED);\n    uart_do_reset(u);",
      "    uart_do_reset(u);"),
     ("fresh clears SIN", "model.c", "    u->sin = 1u;\n", "    u->sin = 0u;\n"),
     ("tick without divisor pulses", "model.c", "    if (u->divisor == 0u)\n        return;\n    u->k--;",
@@ -577,6 +652,7 @@ MUTANTS = [
      "if (strlen(forms[i].word) <= length && "),
     ("1,023 words", "calls.c", "#define MOST_WORDS 1024u", "#define MOST_WORDS 1023u"),
     ("1,025 words", "calls.c", "#define MOST_WORDS 1024u", "#define MOST_WORDS 1025u"),
+    ("part with a number taken", "calls.c", '{ "part", 0, 0, 0, 0,', '{ "part", 0, 0, 0, 1,'),
     ("version above 65535 taken", "calls.c", '{ "replay", 1, 0, 65535,', '{ "replay", 1, 0, 65536,'),
 
     # Replay.
@@ -610,10 +686,10 @@ MUTANTS = [
     ("a tick more in each record", "capture.c", "uart_do_ticks(u, field);", "uart_do_ticks(u, field + 1u);"),
     ("no ticks as one", "capture.c", "uart_do_ticks(u, field);", "uart_do_ticks(u, field + !field);"),
     ("7 before 1", "capture.c",
-     "    if (!uart_well_formed(u))\n        return replay_refused(UART_MALFORMED, 0u);\n"
+     "    if (!uart_well_formed(u))\n        return malformed(uart_part(u));\n"
      "    if (version != CAPTURE_VERSION)\n        return replay_refused(CAPTURE_BAD_VERSION, 0u);\n",
      "    if (version != CAPTURE_VERSION)\n        return replay_refused(CAPTURE_BAD_VERSION, 0u);\n"
-     "    if (!uart_well_formed(u))\n        return replay_refused(UART_MALFORMED, 0u);\n"),
+     "    if (!uart_well_formed(u))\n        return malformed(uart_part(u));\n"),
     ("versions by their low byte", "capture.c", "    if (version != CAPTURE_VERSION)",
      "    if ((version & 255u) != CAPTURE_VERSION)"),
 
@@ -676,12 +752,23 @@ def found_at(good, bad, given):
     return None
 
 
+def found_in_script(bad):
+    """The first line of the stored script that is answered otherwise: `line N`, or None."""
+    got, _ = ask.answer_from_file(os.path.join(bad, "calls"), os.path.join(STORED, "stdin"))
+    with open(os.path.join(STORED, "stdout"), "rb") as answers:
+        want = answers.read()
+    if got == want:
+        return None
+    return "line", 1 + first_difference(got.split(b"\n"), want.split(b"\n"))
+
+
 def main():
     parser = argparse.ArgumentParser(description="asks whether compare.py finds broken rules")
     parser.add_argument("--calls", type=int, default=200000)
     parser.add_argument("--captures", type=int, default=400)
     parser.add_argument("--seed", type=int, default=1)
     parser.add_argument("--only", default="", help="text in the name, or a file")
+    parser.add_argument("--stored", action="store_true", help="asks the stored script instead")
     given = parser.parse_args()
     missed = 0
     tried = 0
@@ -692,7 +779,7 @@ def main():
             if given.only not in name and given.only != file:
                 continue
             bad = build(os.path.join(folder, "bad"), [(file, old, new)])
-            found = found_at(good, bad, given)
+            found = found_in_script(bad) if given.stored else found_at(good, bad, given)
             tried += 1
             if found is None:
                 missed += 1

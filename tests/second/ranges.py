@@ -1,10 +1,13 @@
 #!/usr/bin/env python3
-"""Checks the ranges of document 01, section "The state", against `calls`.
+"""Checks the ranges of document 01, section "The state", against `calls`, and the
+part that document 02, request b, names for each.
 
 Every random state drawn by states.py has to be well formed, and so does what
-each of some steps makes of it. Every damage of the table has to be refused with
-number 1 by every call, the state staying as it was. A number too wide for its
-register has to be refused in each of its places.
+each of some steps makes of it. Every range has to be taken at its edge; beyond it
+every call has to refuse with number 1, the state staying as it was, and `part` has
+to name the range's part, the lowest one where two are broken. A number too wide
+for its register has to be refused in each of its places. So have the states of
+parts.py, each with its part.
 
 usage: ranges.py PROGRAM [STATES]
 """
@@ -12,6 +15,7 @@ usage: ranges.py PROGRAM [STATES]
 import sys
 
 import ask
+import parts
 import states as st
 
 STEPS = ("reset", "tick", "ticks 3", "read 0", "read 2", "read 5", "read 6", "write 0 65",
@@ -40,41 +44,55 @@ def well_formed(pick, count):
     script = []
     for _ in range(count):
         s = st.random_state(pick)
-        line = st.load_line(s)
-        script += [(line, "0"), ("pins", "0"), ("state", line[5:])]
-        script += [(STEPS[pick(len(STEPS))], "0"), ("pins", "0")]
+        script += taken(s) + [(STEPS[pick(len(STEPS))], "0"), ("pins", "0"), ("part", "0 0")]
     return script
 
 
-def refused(s):
+def taken(s):
     line = st.load_line(s)
-    script = [(line, "0")]
+    return [(line, "0"), ("pins", "0"), ("part", "0 0"), ("state", line[5:])]
+
+
+def refused(s, part):
+    line = st.load_line(s)
+    bad = ("part", "1 %d" % part)
+    script = [(line, "0"), bad]
     script += [(call, NO_STEP) for call in CALLS]
     script += [("pins", NO_PINS)]
     script += [(call, "1 0") for call in VALUES]
     script += [(call, "refused 1 0") for call in REPLAYS]
-    return script + [("state", line[5:])]
+    return script + [bad, ("state", line[5:])]
 
 
-def damaged(pick, tries):
+def at_edges(pick, tries):
     script = []
-    for _, damage in st.DAMAGES:
-        found = 0
-        while found < tries:
-            s = damage(st.random_state(pick))
-            if s is not None:
-                script += refused(s)
-                found += 1
+    for edge in st.EDGES:
+        for _ in range(tries):
+            s = st.state_with(edge, pick)
+            script += taken(edge.keep(list(s))) + refused(edge.damage(s), edge.part)
+    return script
+
+
+def damaged(pick, count):
+    script = []
+    for _ in range(count):
+        script += refused(*st.damaged_state(pick))
+    return script
+
+
+def listed():
+    script = []
+    for s, part in parts.cases():
+        script += refused(s, part) if part else taken(s)
     return script
 
 
 def too_wide(pick):
     script = []
     for place in range(st.PLACES):
-        for more in (65536, 1 << 24, 1 << 31):
-            script += refused(st.beyond_width(st.random_state(pick), place, more))
-        if place not in (st.DIVISOR, st.K, st.IDLE):
-            script += refused(st.beyond_width(st.random_state(pick), place, 256))
+        for more in (None, 65536, 1 << 24, 1 << 31):
+            s = st.beyond_width(st.random_state(pick), place, more)
+            script += refused(s, st.part_of(place))
     return script
 
 
@@ -86,10 +104,12 @@ def main():
     pick = st.picker(16750)
 
     wrong = compare(program, well_formed(pick, count))
-    wrong += compare(program, damaged(pick, 3))
+    wrong += compare(program, at_edges(pick, 3))
+    wrong += compare(program, damaged(pick, count))
+    wrong += compare(program, listed())
     wrong += compare(program, too_wide(pick))
-    print("ranges: %d states, %d damages, %d places: %d wrong answers"
-          % (count, len(st.DAMAGES), st.PLACES, wrong))
+    print("ranges: %d states, %d edges, %d places: %d wrong answers"
+          % (count, len(st.EDGES), st.PLACES, wrong))
     sys.exit(1 if wrong else 0)
 
 

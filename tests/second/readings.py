@@ -1,5 +1,6 @@
 #!/usr/bin/env python3
-"""Drives `calls` through the rules where document 01 leaves room, as they are read here.
+"""Drives `calls` through the rules where document 01, or request b of document 02, leaves room, as
+they are read here.
 
 Each part names the rule: a section of document 01, or what was decided beside it.
 
@@ -389,8 +390,64 @@ def narrow_places(r):
     r.call("state", st.RX_STATE, st.RX_IDLE)
 
 
+def part_beside_a_number(r):
+    rule = "a part beside number 1 alone; the lines of the calls stay as they are"
+    s = clocked()
+    s[st.SIN] = 2
+    r.start(rule, s)
+    for call in ("read 5", "write 7 1", "sin 1", "modem 0", "tick", "reset", "pins", "forecast",
+                 "level 0", "run 1"):
+        r.call(call, 0, 1)
+        r.call(call, 1, 0)
+        r.part(2)
+    r.start(rule, clocked())
+    for call, number in (("read 5", 0), ("read 8", 2), ("sin 2", 3), ("modem 16", 3)):
+        r.call(call, 0, number)
+        r.part(0)
+
+
+def places_of_parts(r):
+    for part, places in ((1, (st.IER, st.K)), (2, (st.FIFO_ON, st.SIN)),
+                         (3, (st.TX_COUNT, st.FORMAT)), (4, (st.RX_COUNT, st.RX_PARITY)),
+                         (5, (st.TX_LATCH, st.HOLD))):
+        for place in places:
+            s = clocked()
+            s[place] = 70000
+            r.start("the first and the last place of each part", s)
+            r.part(part)
+    s = clocked()
+    s[st.OE] = 2
+    r.start("OE is of part 5", s)
+    r.part(5)
+
+
+def joined_parts(r):
+    rule = "a range that joins two parts counts for the later one"
+    queued = fifo(clocked())
+    st.set_queue(queued, [1, 2, 3, 4, 5])
+    for part, s in ((3, queued), (4, received(fifo(clocked()), 5))):
+        s[st.FIFO_ON] = 0
+        r.start(rule, s)
+        r.part(part)
+    for place in (st.TX_LATCH, st.TIMEOUT, st.IDLE, st.CHANGES, st.HOLD):
+        s = fifo(clocked())
+        s[st.MCR] = 0x22
+        st.set_queue(s, [1])
+        s[place] = 1
+        r.start(rule, s)
+        r.part(5)
+
+
+def wide_numbers(r):
+    s = clocked()
+    for place, number, part in ((st.TX, 256, 3), (st.TRIGGER, 4, 2), (st.OE, 65536, 2)):
+        s[place] = number
+        r.start("a number too wide breaks its own place's range; a lower part still stands", s)
+        r.part(part)
+
+
 ALL_PARTS = (state_1_to_7, ends_of_steps, numbers, registers_14_to_20, pulses_21_to_25,
-             narrow_places)
+             narrow_places, part_beside_a_number, places_of_parts, joined_parts, wide_numbers)
 
 
 def main():

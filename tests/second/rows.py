@@ -42,6 +42,11 @@ class Rows:
         self.call("forecast", 0, number)
         self.call("forecast", 1, value)
 
+    def part(self, part):
+        """The bad part of the state, 0 where it is well formed."""
+        self.call("part", 0, 1 if part else 0)
+        self.call("part", 1, part)
+
     def sin_bits(self, bits):
         """Each bit for 16 pulses, with D = 1."""
         for bit in bits:
@@ -64,7 +69,7 @@ class Rows:
                       % (row, line[:60], answer[:60], index + 1, value))
                 failed.add(row)
         rows = {want[0] for want in self.wants if want is not None}
-        print("%s: %d of %d parts as document 01 says"
+        print("%s: %d of %d parts as the documents say"
               % (self.name, len(rows) - len(failed), len(rows)))
         return not failed
 

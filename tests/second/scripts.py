@@ -11,11 +11,13 @@ import os
 import sys
 
 import captures
+import parts
 import readings
 import rows
 import states as st
 from recorder import utr
-from states import BIGGEST, PLACES
+from states import (BIGGEST, PLACES, bases, clocked, in_character, with_fifo, with_frame,
+                    with_queued, with_received)
 from steps import FCR, IER, IIR, LCR, LSR, MCR, MSR, RBR, SCR, THR, Lines
 
 
@@ -54,44 +56,6 @@ class Script(Lines):
         self.ticks(8)
         self.read(LSR)
         self.ticks(1)
-
-
-# ---- States to start from ----
-
-def clocked(lcr=0x03, d=1, k=None):
-    s = st.fresh()
-    s[st.LCR], s[st.DIVISOR], s[st.K] = lcr, d, d if k is None else k
-    return s
-
-
-def with_fifo(s, size64=0, code=0):
-    s[st.FIFO_ON], s[st.SIZE64], s[st.TRIGGER] = 1, size64, code
-    return s
-
-
-def with_received(s, count, errors=()):
-    """Errors: a place of the queue and its (PE, FE, BI)."""
-    entries = [(0x30 + i, 0, 0, 0) for i in range(count)]
-    for place, bits in errors:
-        entries[place] = (entries[place][0],) + bits
-    st.set_entries(s, entries)
-    return st.settle(s)
-
-
-def with_queued(s, *data):
-    st.set_queue(s, data)
-    s[st.TX_LATCH] = 0
-    return s
-
-
-def with_frame(s, left, byte=0x41, form=0x03):
-    s[st.L], s[st.BYTE], s[st.FORMAT] = left, byte, form
-    return s
-
-
-def in_character(s, place, form, data=0, parity=0):
-    s[st.RX_STATE:st.RX_PARITY + 1] = [st.RX_CHARACTER, place, form, data, parity]
-    return s
 
 
 # ---- Subjects ----
@@ -1045,28 +1009,6 @@ def clears_in_the_middle(q):
             q.read(LSR, RBR)
 
 
-def bases():
-    """Well-formed states to damage; every damage applies to one of them at least."""
-    plain = clocked(0x03, 12, 7)
-    with_frame(with_received(plain, 1), 33)
-    plain[st.SCR] = 0x77
-
-    flow = with_fifo(clocked(0x1B, 1), 0, 1)
-    flow[st.MCR], flow[st.IER] = 0x22, 0x0F
-    with_queued(with_received(flow, 5, ((2, (1, 1, 0)),)), 1, 2, 3)
-    in_character(flow, 60, 0x1B, 3)
-
-    empty = with_fifo(st.fresh(), 1, 2)
-    empty[st.MCR], empty[st.DIVISOR], empty[st.K] = 0x32, 3, 3
-    empty[st.RX_STATE], empty[st.TX_LATCH] = st.RX_MARK, 1
-
-    half = with_fifo(clocked(0x0F, 2, 1), 1, 3)
-    half[st.MCR], half[st.IER] = 0x20, 0x05
-    with_frame(with_received(half, 20, ((19, (0, 0, 1)),)), 192, 0x99, 0x0F)
-    half[st.IDLE], half[st.TIMEOUT], half[st.OE] = 769, 1, 1
-    return plain, flow, empty, half
-
-
 def damaged_ranges(base):
     def subject(q):
         """Each range broken alone; all calls refuse, the state stays."""
@@ -1074,8 +1016,8 @@ def damaged_ranges(base):
                  "forecast", "level 0", "run 3", "read 9", "sin 2")
         q.load(bases()[base])
         q.raw("pins")
-        for i, (_, damage) in enumerate(st.DAMAGES):
-            s = damage(bases()[base])
+        for i, edge in enumerate(st.EDGES):
+            s = edge.damage(bases()[base])
             if s is None:
                 continue
             q.load(s)
@@ -1090,12 +1032,10 @@ def too_wide(q):
     calls = ("read 5", "tick", "forecast", "pins", "reset", "write 7 1")
     s0 = with_received(with_fifo(clocked()), 2)
     with_frame(with_queued(s0, 1), 5)
-    places = list(st.SINGLES) + [st.TX, st.TX + 63, st.RX, st.RX + 1, st.RX + 2, st.RX + 3,
-                                 st.RX + 252, st.RX + 255]
-    for i, place in enumerate(places):
+    for i, place in enumerate(st.SINGLES + st.QUEUE_ENDS):
         for j, more in enumerate((256, 65536, BIGGEST)):
             s = list(s0)
-            if j == 0 and place in (st.DIVISOR, st.K, st.IDLE) or j == 2 and i % 4:
+            if j == 0 and place in st.WORDS or j == 2 and i % 4:
                 continue
             q.load(st.beyond_width(s, place, more))
             q.raw(calls[(i + j) % len(calls)])
@@ -1427,6 +1367,24 @@ def replays(q):
     q.replay([0] * 1025, 2)
 
 
+def bad_parts(q):
+    """The part of states at the edges of their ranges and beyond, and of well-formed ones."""
+    q.raw("part")
+    for call in ("write 3 131", "write 0 1", "write 2 193", "write 4 34", "write 0 65", "ticks 170",
+                 "sin 0", "ticks 200", "modem 15", "read 2", "read 8", "reset", "fresh"):
+        q.raw(call, "part")
+    calls = ("pins", "tick", "read 5", "forecast", "write 4 0", "level 0", "reset", "run 2",
+             "sin 1", "replay 1", "modem 0", "ticks 3", "read 8")
+    for i, (s, _) in enumerate(parts.cases()):
+        q.load(s)
+        q.raw("part", calls[i % len(calls)])
+        if i % 3 == 0:
+            q.raw("part")
+    for line in ("part 1", "part 0", "part ", " part", "part\t", "Part", "parts", "par"):
+        q.raw(line, "part")
+    q.raw("fresh", "part")
+
+
 def random_states(seed, count):
     def subject(q):
         """Random states near boundaries, one step, the state it leaves."""
@@ -1489,6 +1447,7 @@ SUBJECTS = (
     ("driver", "a driver at work, from a seed", driver),
     ("states", "random states and one step", random_states(750, 80)),
     ("replay", "replay: outcomes, states, refusals, long lines", replays),
+    ("part", "which part of a state is bad", bad_parts),
 )
 
 

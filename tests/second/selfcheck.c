@@ -8,6 +8,9 @@
  * Steps: every step on a well-formed state gives a well-formed state, and a
  * refused one leaves the state as it was.
  *
+ * Parts: on states damaged in one or two places every call answers 1 and the
+ * lower of their parts, and leaves the state as it was.
+ *
  * Replay: on random states and records, against the checked calls made one by
  * one, with differences and bad records put in.
  */
@@ -20,6 +23,7 @@
 
 #define FORECAST_STATES 4000u
 #define STEP_STATES 20000u
+#define DAMAGED_STATES 20000u
 #define JOURNEYS 200u
 #define JOURNEY_STEPS 2000u
 #define REPLAYS 20000u
@@ -312,26 +316,32 @@ static void check_forecast(const struct uart *first)
 
 /* ---- Steps ---- */
 
+static void check_unchanged(const struct uart *before, const struct uart *after)
+{
+    if (memcmp(before, after, sizeof *before) != 0)
+        fail("state after a refusal", before, 0u, 1u);
+}
+
 static void check_refused(const struct uart *before, const struct uart *after,
-                          struct uart_answer a, uint32_t number)
+                          struct uart_answer a, uint32_t number, uint32_t part)
 {
     struct uart_answer zero = { 0 };
 
     zero.number = number;
+    zero.part = part;
     if (memcmp(&a, &zero, sizeof a) != 0)
         fail("refusal", before, number, a.number);
-    if (memcmp(before, after, sizeof *before) != 0)
-        fail("state after a refusal", before, 0u, 1u);
+    check_unchanged(before, after);
 }
 
 static void check_refusals(const struct uart *u)
 {
     struct uart v = *u;
 
-    check_refused(u, &v, uart_read(&v, 8u + draw(1000u)), UART_BAD_ADDRESS);
-    check_refused(u, &v, uart_write(&v, 8u + draw(1000u), 1u), UART_BAD_ADDRESS);
-    check_refused(u, &v, uart_set_sin(&v, 2u + draw(1000u)), UART_BAD_LEVEL);
-    check_refused(u, &v, uart_set_modem(&v, 16u + draw(1000u)), UART_BAD_LEVEL);
+    check_refused(u, &v, uart_read(&v, 8u + draw(1000u)), UART_BAD_ADDRESS, 0u);
+    check_refused(u, &v, uart_write(&v, 8u + draw(1000u), 1u), UART_BAD_ADDRESS, 0u);
+    check_refused(u, &v, uart_set_sin(&v, 2u + draw(1000u)), UART_BAD_LEVEL, 0u);
+    check_refused(u, &v, uart_set_modem(&v, 16u + draw(1000u)), UART_BAD_LEVEL, 0u);
 }
 
 static struct uart_answer random_step(struct uart *u)
@@ -375,6 +385,59 @@ static void speed_up(struct uart *u)
         u->divisor = 1u + draw(3u);
         u->k = 1u + draw(u->divisor);
     }
+}
+
+/* ---- Parts ---- */
+
+/* Puts a number beyond every range at a place of some part; returns the part. */
+static uint32_t damage(struct uart *u)
+{
+    /* The places of each part end here (document 02, request b). */
+    static const uint32_t ends[] = { 0u, 6u, 12u, 80u, 342u, UART_STATE_PLACES };
+    uint32_t places[UART_STATE_PLACES];
+    uint32_t part = 1u + draw(5u);
+    uint32_t first = ends[part - 1u];
+
+    memcpy(places, u, sizeof places);
+    places[first + draw(ends[part] - first)] = 65536u + draw(1u << 30);
+    memcpy(u, places, sizeof places);
+    return part;
+}
+
+/* Damages a state in one place or in two; returns the lower part. */
+static uint32_t damage_some(struct uart *u)
+{
+    uint32_t part = damage(u);
+    uint32_t other = draw(2u) != 0u ? damage(u) : part;
+
+    return other < part ? other : part;
+}
+
+static void check_no_value(const struct uart *u, struct uart_value v, uint32_t part)
+{
+    expect("malformed state's number", u, UART_MALFORMED, v.number);
+    expect("malformed state's part", u, part, v.part);
+    expect("malformed state's value", u, 0u, v.value);
+}
+
+static void check_damaged(struct uart *u)
+{
+    uint32_t part = damage_some(u);
+    struct uart v = *u;
+
+    expect("part", u, part, uart_part(u));
+    check_refused(u, &v, uart_reset(&v), UART_MALFORMED, part);
+    check_refused(u, &v, uart_read(&v, draw(16u)), UART_MALFORMED, part);
+    check_refused(u, &v, uart_write(&v, draw(16u), 1u), UART_MALFORMED, part);
+    check_refused(u, &v, uart_set_sin(&v, draw(4u)), UART_MALFORMED, part);
+    check_refused(u, &v, uart_set_modem(&v, draw(32u)), UART_MALFORMED, part);
+    check_refused(u, &v, uart_tick(&v), UART_MALFORMED, part);
+    check_refused(u, &v, uart_ticks(&v, draw(9u)), UART_MALFORMED, part);
+    check_refused(u, &v, uart_look(&v), UART_MALFORMED, part);
+    check_no_value(u, uart_forecast(&v), part);
+    check_no_value(u, uart_level(&v, draw(9u)), part);
+    check_no_value(u, uart_run(&v, draw(9u)), part);
+    check_unchanged(u, &v);
 }
 
 /* ---- Replay ---- */
@@ -432,6 +495,7 @@ static void check_answer(const struct uart *first, struct replay_answer got,
 {
     expect("replay's outcome", first, wanted.outcome, got.outcome);
     expect("replay's number", first, wanted.number, got.number);
+    expect("replay's part", first, wanted.part, got.part);
     expect("replay's place", first, (uint32_t)wanted.place, (uint32_t)got.place);
     expect("replay's seen byte", first, wanted.seen, got.seen);
     expect("replay's model byte", first, wanted.model, got.model);
@@ -453,7 +517,8 @@ static void check_replays(const struct uart *first)
 {
     struct uart states[REPLAY_RECORDS + 1u]; /* before each record, and at the end */
     uint32_t records[REPLAY_RECORDS];
-    struct replay_answer agreed = { REPLAY_AGREED, 0u, 0u, 0u, 0u };
+    struct replay_answer agreed = { REPLAY_AGREED, 0u, 0u, 0u, 0u, 0u };
+    struct replay_answer malformed = replay_refused(1u, 0u);
     struct uart damaged = *first;
     uint32_t place = draw(REPLAY_RECORDS);
     uint32_t good;
@@ -467,7 +532,7 @@ static void check_replays(const struct uart *first)
     check_replay(first, 1u, records, agreed, &states[REPLAY_RECORDS]);
     if (good >> 28 == 1u) {
         uint32_t flip = 1u + draw(255u);
-        struct replay_answer differs = { REPLAY_DIFFERS, 0u, place, (good ^ flip) & 0xFFu,
+        struct replay_answer differs = { REPLAY_DIFFERS, 0u, 0u, place, (good ^ flip) & 0xFFu,
                                          good & 0xFFu };
 
         records[place] = good ^ flip;
@@ -477,8 +542,8 @@ static void check_replays(const struct uart *first)
     check_replay(first, 1u, records, replay_refused(8u, place), &states[place]);
     check_replay(first, 2u + draw(65534u), records, replay_refused(7u, 0u), first);
     check_replay(first, 0u, records, replay_refused(7u, 0u), first);
-    damaged.sin = 2u;
-    check_replay(&damaged, draw(3u), records, replay_refused(1u, 0u), &damaged);
+    malformed.part = damage_some(&damaged);
+    check_replay(&damaged, draw(3u), records, malformed, &damaged);
 }
 
 int main(void)
@@ -504,6 +569,11 @@ int main(void)
         }
     }
     printf("steps: %u states and %u journeys stay well formed\n", STEP_STATES, JOURNEYS);
+    for (uint32_t i = 0u; i < DAMAGED_STATES; i++) {
+        draw_state(&u, 65535u);
+        check_damaged(&u);
+    }
+    printf("parts: %u damaged states refused with their part\n", DAMAGED_STATES);
     for (uint32_t i = 0u; i < REPLAYS; i++) {
         draw_state(&u, 5u);
         check_replays(&u);

@@ -2,10 +2,12 @@
 
 Holds the names of the places, the few formulas of document 01 needed to build
 well-formed states, a random drawing of them that favours boundaries, and the
-table of damages: one for each range of document 01, section "The state".
+edge of each range of document 01, section "The state", with the part of the state
+it counts for (document 02, request b).
 """
 
 import random
+from bisect import bisect_left
 
 QUEUE = 64
 
@@ -20,6 +22,22 @@ PLACES = HOLD + 1
 
 # The places outside the two queues.
 SINGLES = tuple(range(0, 13)) + (L, BYTE, FORMAT, RX_COUNT) + tuple(range(RX_STATE, PLACES))
+
+# The first and last places of the queues.
+QUEUE_ENDS = (TX, TX + 63, RX, RX + 1, RX + 2, RX + 3, RX + 252, RX + 255)
+
+# The places whose numbers go beyond a byte.
+WORDS = (DIVISOR, K, IDLE)
+
+# The last place of each part, from part 1 on.
+PART_ENDS = (K, SIN, FORMAT, RX_PARITY, HOLD)
+PARTS = range(1, len(PART_ENDS) + 1)
+
+
+def part_of(place):
+    """The part that a number out of a place's range counts for."""
+    return 1 + bisect_left(PART_ENDS, place)
+
 
 RX_IDLE, RX_MARK, RX_CHARACTER = 0, 1, 2
 
@@ -144,6 +162,42 @@ def settle(s):
         s[HOLD] = 0
     elif s[RX_COUNT] >= trigger(s):
         s[HOLD] = 1
+    return s
+
+
+def clocked(lcr=0x03, d=1, k=None):
+    s = fresh()
+    s[LCR], s[DIVISOR], s[K] = lcr, d, d if k is None else k
+    return s
+
+
+def with_fifo(s, size64=0, code=0):
+    s[FIFO_ON], s[SIZE64], s[TRIGGER] = 1, size64, code
+    return s
+
+
+def with_received(s, count, errors=()):
+    """Errors: a place of the queue and its (PE, FE, BI)."""
+    entries = [(0x30 + i, 0, 0, 0) for i in range(count)]
+    for place, bits in errors:
+        entries[place] = (entries[place][0],) + bits
+    set_entries(s, entries)
+    return settle(s)
+
+
+def with_queued(s, *data):
+    set_queue(s, data)
+    s[TX_LATCH] = 0
+    return s
+
+
+def with_frame(s, left, byte=0x41, form=0x03):
+    s[L], s[BYTE], s[FORMAT] = left, byte, form
+    return s
+
+
+def in_character(s, place, form, data=0, parity=0):
+    s[RX_STATE:RX_PARITY + 1] = [RX_CHARACTER, place, form, data, parity]
     return s
 
 
@@ -279,89 +333,127 @@ def random_state(pick):
     return settle(s)
 
 
-# ---- Damages: each takes a well-formed state and breaks one range of it ----
+# ---- Edges: where the ranges end ----
 
-def put(place, value):
-    """The place gets a value out of its range."""
-    def damage(s):
-        s[place] = value
-        return s
-    return damage
+def any_state(_):
+    return True
 
 
-def when(condition, change):
-    """A damage for states that meet the condition; others are left out."""
-    def damage(s):
-        if not condition(s):
+class Edge:
+    """The edge of a range: the part it counts for, the change of a well-formed state to the last
+    number inside, the change to the first one outside, and which states have it."""
+
+    def __init__(self, part, name, inside, outside, where=any_state):
+        self.part = part
+        self.name = name
+        self.inside = inside
+        self.outside = outside
+        self.where = where
+
+    def keep(self, s):
+        """The state, which has the edge, at it and still well formed."""
+        self.inside(s)
+        return settle(s)
+
+    def damage(self, s):
+        """The state with this range broken; None where it hasn't the edge."""
+        if not self.where(s):
             return None
-        change(s)
+        self.outside(s)
         return s
-    return damage
 
 
-def k_without_divisor(s):
-    s[DIVISOR] = 0
-    s[K] = 1
+def put(place, *values):
+    """The places from this one on get the values."""
+    def change(s):
+        s[place:place + len(values)] = values
+    return change
 
 
-def divisor_too_large(s):
-    s[DIVISOR] = 65536
-    s[K] = 1
+def as_it_is(_):
+    """The change of a state that is at the edge already."""
 
 
-def k_zero(s):
-    s[K] = 0
+def above(place, most):
+    return put(place, most), put(place, most + 1)
 
 
-def k_above_divisor(s):
-    s[K] = s[DIVISOR] + 1
+def has_divisor(s):
+    return s[DIVISOR] > 0
 
 
-def transmit_count_above(s):
-    size = capacity(s)
-    set_queue(s, [1] * min(QUEUE, size + 1))
-    s[TX_COUNT] = size + 1
-    s[TX_LATCH] = 0
+def has_queued(s):
+    return s[TX_COUNT] > 0
 
 
-def receive_count_above(s):
-    size = capacity(s)
-    set_entries(s, [(1, 0, 0, 0)] * min(QUEUE, size + 1))
-    s[RX_COUNT] = size + 1
-    settle(s)
+def none_queued(s):
+    return s[TX_COUNT] == 0
 
 
-def frame_too_long(s):
-    s[L] = frame_length(s[FORMAT]) + 1
+def has_received(s):
+    return s[RX_COUNT] > 0
 
 
-def frame_beyond_192(s):
-    s[L], s[BYTE], s[FORMAT] = 193, 0, 0x3F
+def sending(s):
+    return s[L] > 0
 
 
-def in_character(s):
-    return s[RX_STATE] == RX_CHARACTER
+def not_sending(s):
+    return s[L] == 0
+
+
+def not_in_character(s):
+    return s[RX_STATE] != RX_CHARACTER
+
+
+def fifo_with_data(s):
+    return s[FIFO_ON] and s[RX_COUNT]
+
+
+def fifo_without_data(s):
+    return s[FIFO_ON] and not s[RX_COUNT]
+
+
+def character_mode_with_data(s):
+    return not s[FIFO_ON] and s[RX_COUNT]
+
+
+def k_above_divisor(more):
+    def change(s):
+        s[K] = s[DIVISOR] + more
+    return change
+
+
+def transmit_count_above(more):
+    def change(s):
+        size = capacity(s) + more
+        set_queue(s, [1] * min(QUEUE, size))
+        s[TX_COUNT] = size
+        s[TX_LATCH] = 0
+    return change
+
+
+def receive_count_above(more):
+    def change(s):
+        size = capacity(s) + more
+        set_entries(s, [(1, 0, 0, 0)] * min(QUEUE, size))
+        s[RX_COUNT] = size
+        settle(s)
+    return change
+
+
+def left_above_frame(more):
+    def change(s):
+        s[L] = frame_length(s[FORMAT]) + more
+    return change
 
 
 def character(form, place, data=0, parity=0):
-    """A receiver in a character whose places contradict each other."""
-    def damage(s):
-        s[RX_STATE], s[P], s[RX_FORMAT], s[RX_DATA], s[RX_PARITY] = (
-            RX_CHARACTER, place, form, data, parity)
-        return s
-    return damage
+    return put(RX_STATE, RX_CHARACTER, place, form, data, parity)
 
 
-def latch_on_queue(s):
-    s[TX_LATCH] = 1
-
-
-def timeout_set(s):
-    s[TIMEOUT] = 1
-
-
-def idle_set(s):
-    s[IDLE] = 1
+def stop_at(form, place):
+    return character(form, place - 1), character(form, place)
 
 
 def hold_flipped(s):
@@ -372,18 +464,26 @@ def cts_change_set(s):
     s[CHANGES] |= 1
 
 
-def last_byte_of_queue(s):
-    s[TX + s[TX_COUNT] - 1] = 256
+def newest_byte(value):
+    def change(s):
+        s[TX + s[TX_COUNT] - 1] = value
+    return change
 
 
 def beyond_queue(s):
     s[TX + s[TX_COUNT]] = 1
 
 
-def last_entry(offset, value):
-    def change(s):
-        s[RX + 4 * (s[RX_COUNT] - 1) + offset] = value
-    return change
+def room_to_queue(s):
+    return s[TX_COUNT] < QUEUE
+
+
+def newest_entry(offset, most):
+    def put_at(value):
+        def change(s):
+            s[RX + 4 * (s[RX_COUNT] - 1) + offset] = value
+        return change
+    return put_at(most), put_at(most + 1)
 
 
 def beyond_entries(offset):
@@ -392,98 +492,164 @@ def beyond_entries(offset):
     return change
 
 
-def make_damages():
-    table = [
-        ("IER above 63", put(IER, 64)),
-        ("MCR above 63", put(MCR, 64)),
-        ("LCR above 255", put(LCR, 256)),
-        ("SCR above 255", put(SCR, 256)),
-        ("divisor above 65535", lambda s: divisor_too_large(s) or s),
-        ("k without divisor", lambda s: k_without_divisor(s) or s),
-        ("k zero with divisor", when(lambda s: s[DIVISOR], k_zero)),
-        ("k above divisor", when(lambda s: s[DIVISOR], k_above_divisor)),
-        ("FIFO on above 1", put(FIFO_ON, 2)),
-        ("size bit above 1", put(SIZE64, 2)),
-        ("DMA bit above 1", put(DMA, 2)),
-        ("trigger code above 3", put(TRIGGER, 4)),
-        ("modem pins above 15", put(MODEM, 16)),
-        ("SIN above 1", put(SIN, 2)),
-        ("transmit count above capacity", lambda s: transmit_count_above(s) or s),
-        ("transmit count 65", put(TX_COUNT, 65)),
-        ("oldest queued byte above 255", when(lambda s: s[TX_COUNT], put(TX, 256))),
-        ("newest queued byte above 255", when(lambda s: s[TX_COUNT], last_byte_of_queue)),
-        ("transmit place after the count", when(lambda s: s[TX_COUNT] < QUEUE, beyond_queue)),
-        ("last transmit place", when(lambda s: s[TX_COUNT] < QUEUE, put(TX + 63, 255))),
-        ("L above its frame", when(lambda s: s[L], frame_too_long)),
-        ("L above 192", lambda s: frame_beyond_192(s) or s),
-        ("frame byte above 255", when(lambda s: s[L], put(BYTE, 256))),
-        ("frame format above 63", when(lambda s: s[L], put(FORMAT, 64))),
-        ("frame byte without L", when(lambda s: not s[L], put(BYTE, 1))),
-        ("frame format without L", when(lambda s: not s[L], put(FORMAT, 1))),
-        ("receive count above capacity", lambda s: receive_count_above(s) or s),
-        ("receive count 65", put(RX_COUNT, 65)),
-        ("received byte above 255", when(lambda s: s[RX_COUNT], put(RX, 256))),
-        ("PE above 1", when(lambda s: s[RX_COUNT], put(RX + 1, 2))),
-        ("FE above 1", when(lambda s: s[RX_COUNT], put(RX + 2, 2))),
-        ("BI above 1", when(lambda s: s[RX_COUNT], put(RX + 3, 2))),
-        ("last received byte above 255", when(lambda s: s[RX_COUNT], last_entry(0, 256))),
-        ("last PE above 1", when(lambda s: s[RX_COUNT], last_entry(1, 2))),
-        ("last FE above 1", when(lambda s: s[RX_COUNT], last_entry(2, 2))),
-        ("last BI above 1", when(lambda s: s[RX_COUNT], last_entry(3, 2))),
-        ("receiver state 3", put(RX_STATE, 3)),
-        ("position outside a character", when(lambda s: not in_character(s), put(P, 1))),
-        ("format outside a character", when(lambda s: not in_character(s), put(RX_FORMAT, 1))),
-        ("data outside a character", when(lambda s: not in_character(s), put(RX_DATA, 1))),
-        ("parity outside a character", when(lambda s: not in_character(s), put(RX_PARITY, 1))),
-        ("character format above 63", character(64, 0)),
-        ("P at the stop position, 8 bits", character(0x03, 152)),
-        ("P at the stop position, 5 bits", character(0x00, 104)),
-        ("P at the stop position, parity", character(0x1B, 168)),
-        ("P at the stop position, two stops", character(0x07, 152)),
-        ("P at the stop position, parity and two stops", character(0x0E, 152)),
-        ("P above the stop position", character(0x03, 153)),
-        ("data above the width", character(0x08, 119, 0x20)),
-        ("data above 255", character(0x03, 151, 0x100)),
-        ("parity sample without parity", character(0x03, 151, 0, 1)),
-        ("parity sample too early", character(0x0B, 151, 0, 1)),
-        ("parity sample above 1", character(0x0B, 152, 0, 2)),
-        ("transmit-empty latch above 1", when(lambda s: not s[TX_COUNT], put(TX_LATCH, 2))),
-        ("transmit-empty latch on a queue", when(lambda s: s[TX_COUNT], latch_on_queue)),
-        ("OE above 1", put(OE, 2)),
-        ("time-out latch above 1",
-         when(lambda s: s[FIFO_ON] and s[RX_COUNT], put(TIMEOUT, 2))),
-        ("time-out latch with FIFO off",
-         when(lambda s: not s[FIFO_ON] and s[RX_COUNT], timeout_set)),
-        ("time-out latch without data",
-         when(lambda s: s[FIFO_ON] and not s[RX_COUNT], timeout_set)),
-        ("idle count above 769", when(lambda s: s[FIFO_ON] and s[RX_COUNT], put(IDLE, 770))),
-        ("idle count with FIFO off", when(lambda s: not s[FIFO_ON] and s[RX_COUNT], idle_set)),
-        ("idle count without data", when(lambda s: s[FIFO_ON] and not s[RX_COUNT], idle_set)),
-        ("change bits above 15", put(CHANGES, 16)),
-        ("CTS change with autoflow", when(autoflow, cts_change_set)),
-        ("hold above 1", put(HOLD, 2)),
-        ("hold without autoflow", when(lambda s: not autoflow(s), hold_flipped)),
-        ("hold without MCR1",
-         when(lambda s: autoflow(s) and not auto_rts(s), hold_flipped)),
-        ("hold with an empty queue",
-         when(lambda s: auto_rts(s) and not s[RX_COUNT], hold_flipped)),
-        ("no hold at the trigger",
-         when(lambda s: auto_rts(s) and s[RX_COUNT] >= trigger(s), hold_flipped)),
-    ]
+def room_to_receive(s):
+    return s[RX_COUNT] < QUEUE
+
+
+REGISTERS = (
+    ("IER above 63", *above(IER, 63)),
+    ("MCR above 63", *above(MCR, 63)),
+    ("LCR above 255", *above(LCR, 255)),
+    ("SCR above 255", *above(SCR, 255)),
+    ("divisor above 65535", put(DIVISOR, 65535, 1), put(DIVISOR, 65536, 1)),
+    ("k without divisor", put(DIVISOR, 0, 0), put(DIVISOR, 0, 1)),
+    ("k zero with divisor", put(K, 1), put(K, 0), has_divisor),
+    ("k above divisor", k_above_divisor(0), k_above_divisor(1), has_divisor),
+)
+
+FIFO_AND_PINS = (
+    ("FIFO on above 1", *above(FIFO_ON, 1)),
+    ("size bit above 1", *above(SIZE64, 1)),
+    ("DMA bit above 1", *above(DMA, 1)),
+    ("trigger code above 3", *above(TRIGGER, 3)),
+    ("modem pins above 15", *above(MODEM, 15)),
+    ("SIN above 1", *above(SIN, 1)),
+)
+
+TRANSMIT = (
+    ("transmit count above capacity", transmit_count_above(0), transmit_count_above(1)),
+    ("transmit count 65", transmit_count_above(0), put(TX_COUNT, 65)),
+    ("oldest queued byte above 255", *above(TX, 255), has_queued),
+    ("newest queued byte above 255", newest_byte(255), newest_byte(256), has_queued),
+    ("transmit place after the count", as_it_is, beyond_queue, room_to_queue),
+    ("last transmit place", as_it_is, put(TX + 63, 255), room_to_queue),
+    ("L above its frame", left_above_frame(0), left_above_frame(1), sending),
+    ("L above 192", put(L, 192, 0, 0x3F), put(L, 193, 0, 0x3F)),
+    ("frame byte above 255", *above(BYTE, 255), sending),
+    ("frame format above 63", *above(FORMAT, 63), sending),
+    ("frame byte without L", as_it_is, put(BYTE, 1), not_sending),
+    ("frame format without L", as_it_is, put(FORMAT, 1), not_sending),
+)
+
+RECEIVE = (
+    ("receive count above capacity", receive_count_above(0), receive_count_above(1)),
+    ("receive count 65", receive_count_above(0), put(RX_COUNT, 65)),
+    ("received byte above 255", *above(RX, 255), has_received),
+    ("PE above 1", *above(RX + 1, 1), has_received),
+    ("FE above 1", *above(RX + 2, 1), has_received),
+    ("BI above 1", *above(RX + 3, 1), has_received),
+    ("last received byte above 255", *newest_entry(0, 255), has_received),
+    ("last PE above 1", *newest_entry(1, 1), has_received),
+    ("last FE above 1", *newest_entry(2, 1), has_received),
+    ("last BI above 1", *newest_entry(3, 1), has_received),
+    ("receiver state 3", *above(RX_STATE, RX_CHARACTER)),
+    ("position outside a character", as_it_is, put(P, 1), not_in_character),
+    ("format outside a character", as_it_is, put(RX_FORMAT, 1), not_in_character),
+    ("data outside a character", as_it_is, put(RX_DATA, 1), not_in_character),
+    ("parity outside a character", as_it_is, put(RX_PARITY, 1), not_in_character),
+    ("character format above 63", character(63, 0), character(64, 0)),
+    ("P at the stop position, 8 bits", *stop_at(0x03, 152)),
+    ("P at the stop position, 5 bits", *stop_at(0x00, 104)),
+    ("P at the stop position, parity", *stop_at(0x1B, 168)),
+    ("P at the stop position, two stops", *stop_at(0x07, 152)),
+    ("P at the stop position, parity and two stops", *stop_at(0x0E, 152)),
+    ("P above the stop position", character(0x03, 151), character(0x03, 153)),
+    ("data above the width", character(0x08, 119, 0x1F), character(0x08, 119, 0x20)),
+    ("data above 255", character(0x03, 151, 0xFF), character(0x03, 151, 0x100)),
+    ("parity sample without parity", character(0x03, 151, 0, 0), character(0x03, 151, 0, 1)),
+    ("parity sample too early", character(0x0B, 152, 0, 1), character(0x0B, 151, 0, 1)),
+    ("parity sample above 1", character(0x0B, 152, 0, 1), character(0x0B, 152, 0, 2)),
+)
+
+LATCHES = (
+    ("transmit-empty latch above 1", *above(TX_LATCH, 1), none_queued),
+    ("transmit-empty latch on a queue", as_it_is, put(TX_LATCH, 1), has_queued),
+    ("OE above 1", *above(OE, 1)),
+    ("time-out latch above 1", *above(TIMEOUT, 1), fifo_with_data),
+    ("time-out latch with FIFO off", as_it_is, put(TIMEOUT, 1), character_mode_with_data),
+    ("time-out latch without data", as_it_is, put(TIMEOUT, 1), fifo_without_data),
+    ("idle count above 769", *above(IDLE, 769), fifo_with_data),
+    ("idle count with FIFO off", as_it_is, put(IDLE, 1), character_mode_with_data),
+    ("idle count without data", as_it_is, put(IDLE, 1), fifo_without_data),
+    ("change bits above 15", *above(CHANGES, 15)),
+    ("CTS change with autoflow", as_it_is, cts_change_set, autoflow),
+    ("hold above 1", *above(HOLD, 1)),
+    ("hold without autoflow", as_it_is, hold_flipped, lambda s: not autoflow(s)),
+    ("hold without MCR1", as_it_is, hold_flipped, lambda s: autoflow(s) and not auto_rts(s)),
+    ("hold with an empty queue", as_it_is, hold_flipped,
+     lambda s: auto_rts(s) and not s[RX_COUNT]),
+    ("no hold at the trigger", as_it_is, hold_flipped,
+     lambda s: auto_rts(s) and s[RX_COUNT] >= trigger(s)),
+)
+
+
+def samples_and_places():
+    """Each data sample before its position, each number of an entry beyond the receive count."""
     for i in range(8):
-        table.append(("data sample %d too early" % i, character(0x03, 23 + 16 * i, 1 << i)))
+        yield ("data sample %d too early" % i, character(0x03, 24 + 16 * i, 1 << i),
+               character(0x03, 23 + 16 * i, 1 << i))
     for offset, name in enumerate(("byte", "PE", "FE", "BI")):
-        table.append(("%s after the receive count" % name,
-                      when(lambda s: s[RX_COUNT] < QUEUE, beyond_entries(offset))))
-        table.append(("%s in the last receive place" % name,
-                      when(lambda s: s[RX_COUNT] < QUEUE, put(RX + 4 * 63 + offset, 1))))
-    return table
+        yield ("%s after the receive count" % name, as_it_is, beyond_entries(offset),
+               room_to_receive)
+        yield ("%s in the last receive place" % name, as_it_is, put(RX + 4 * 63 + offset, 1),
+               room_to_receive)
 
 
-DAMAGES = make_damages()
+EDGES = [Edge(part, *row)
+         for part, rows in ((1, REGISTERS), (2, FIFO_AND_PINS), (3, TRANSMIT), (4, RECEIVE),
+                            (5, LATCHES), (4, samples_and_places()))
+         for row in rows]
 
 
-def beyond_width(s, place, more):
-    """A number too wide for its register, the same in its low bits. More is 256 or larger."""
+def bases():
+    """Well-formed states to damage; each edge is had by one of them at least."""
+    plain = clocked(0x03, 12, 7)
+    with_frame(with_received(plain, 1), 33)
+    plain[SCR] = 0x77
+
+    flow = with_fifo(clocked(0x1B, 1), 0, 1)
+    flow[MCR], flow[IER] = 0x22, 0x0F
+    with_queued(with_received(flow, 5, ((2, (1, 1, 0)),)), 1, 2, 3)
+    in_character(flow, 60, 0x1B, 3)
+
+    empty = with_fifo(fresh(), 1, 2)
+    empty[MCR], empty[DIVISOR], empty[K] = 0x32, 3, 3
+    empty[RX_STATE], empty[TX_LATCH] = RX_MARK, 1
+
+    half = with_fifo(clocked(0x0F, 2, 1), 1, 3)
+    half[MCR], half[IER] = 0x20, 0x05
+    with_frame(with_received(half, 20, ((19, (0, 0, 1)),)), 192, 0x99, 0x0F)
+    half[IDLE], half[TIMEOUT], half[OE] = 769, 1, 1
+    return plain, flow, empty, half
+
+
+def beyond_width(s, place, more=None):
+    """A number too wide for its place, the same in its low bits. More is 256 or larger, 65536 or
+    larger for a word; if not said, the least."""
+    if more is None:
+        more = 65536 if place in WORDS else 256
     s[place] = min(BIGGEST, s[place] + more)
     return s
+
+
+def state_with(edge, pick):
+    """A random state that has the edge."""
+    while True:
+        s = random_state(pick)
+        if edge.where(s):
+            return s
+
+
+def damaged_state(pick):
+    """A random state with one range broken or two, and the lowest of their parts. The later part is
+    broken first: what its range needs of the earlier ones is then still good."""
+    first = EDGES[pick(len(EDGES))]
+    s = state_with(first, pick)
+    edges = [first]
+    if pick(2):
+        others = [edge for edge in EDGES if edge is not first and edge.where(s)]
+        edges.append(others[pick(len(others))])
+    edges.sort(key=lambda edge: -edge.part)
+    for edge in edges:
+        edge.damage(s)
+    return s, edges[-1].part
