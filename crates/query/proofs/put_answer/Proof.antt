@@ -29,6 +29,12 @@ enum-known-c c = search needs
 put-level-requires : tie.Need-put-level-requires
 put-level-requires c κs = search needs
 
+enum-told-4 : tie.Need-enum-told-4
+enum-told-4 c = search needs
+
+put-part-requires : tie.Need-put-part-requires
+put-part-requires c κs = search needs
+
 slice-aggregate-put : tie.Need-slice-aggregate-put
 slice-aggregate-put c = search needs
 
@@ -64,11 +70,18 @@ unfolding saidOf
 returns-4 c = rw (c .before .before .before .before .before .c .given .1) (c .before .before .put-level .ensures)
 
 same-length-5 : tie.Need-same-length-5
-same-length-5 c = c .before .before .put .kept .1 .0
+same-length-5 c = c .before .before .put-part .kept .1 .0
 
 returns-5 : tie.Need-returns-5
 unfolding saidOf
-returns-5 c = rw (is-bad (c .before .before .before .before .before .before .before .before .before .args .c) (c .before .before .before .before .before .before .before .before .before .pre .0) (c .before .before .before .before .before .match .keys5)) (c .before .before .put .ensures)
+returns-5 c = rw (c .before .before .before .before .enum-told4 .given .1) (c .before .before .put-part .ensures)
+
+same-length-6 : tie.Need-same-length-6
+same-length-6 c = c .before .before .put .kept .1 .0
+
+returns-6 : tie.Need-returns-6
+unfolding saidOf
+returns-6 c = rw (is-bad (c .before .before .before .before .before .before .before .before .before .args .c) (c .before .before .before .before .before .before .before .before .before .pre .0) (c .before .before .before .before .before .match .keys6)) (c .before .before .put .ensures)
 
 pub put-answer-spec : {M : Type 1} → statement M
 put-answer-spec =
@@ -82,6 +95,8 @@ put-answer-spec =
     put-forecast-requires
     enum-known-c
     put-level-requires
+    enum-told-4
+    put-part-requires
     slice-aggregate-put
     put-requires
     same-length
@@ -93,4 +108,6 @@ put-answer-spec =
     same-length-4
     returns-4
     same-length-5
-    returns-5)
+    returns-5
+    same-length-6
+    returns-6)
