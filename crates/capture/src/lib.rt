@@ -45,14 +45,14 @@ pub fn values_of(o: Outcome) -> Values
     match o {
         Outcome::Agreed => Values {
             number: 0,
-            part: 0,
+            part: NONE,
             seen: 0,
             model: 0,
             place: 0,
         },
         Outcome::Differs { place, seen, model } => Values {
             number: 0,
-            part: 0,
+            part: NONE,
             seen,
             model,
             place,

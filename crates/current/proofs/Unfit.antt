@@ -9,10 +9,10 @@ use lib.Dec.{ltb}
 use native.Mathlib.Decide.{decLt}
 use native.Mathlib.Omega.{arith}
 use borrow.Author.Tests.{lt-ltb, le-ltb}
-use Rattle.flag.specs.Flag.{firstFailing, bothOf}
-use Rattle.device.specs.Ranges.{parts, partOf}
+use Rattle.device.specs.Ranges.{parts, firstFailing, partOf}
+use Rattle.device.proofs.Parts.{above}
 use Rattle.numbers.specs.Numbers.{fitting, unfitPart, stateOf}
-use Rattle.current.specs.Current.{loadedPart}
+use Rattle.current.specs.Current.{bothOf, loadedPart}
 
 -- the second part where it is some part below the first
 abbrev lower : ℕ → ℕ → ℕ
@@ -29,14 +29,6 @@ lower-first a b f = go (decLt 0 b)
     go (no n) =
         let z : b ≤ 0 = omega (arith, n) in
         simp (le-ltb _ _ z)
-
--- counted from suc n, a place is above n
-above : (n : ℕ) (ts : List Bool) → 0 < firstFailing (suc n) ts → n < firstFailing (suc n) ts
-above n [] h = absurd (omega (arith, h))
-above n (true ∷ ts) h =
-    let k = above (suc n) ts h in
-    omega (arith, k)
-above n (false ∷ ts) h = omega arith
 
 first-both : (n : ℕ) (ts us : List Bool) → length ts ≡ length us → 0 < firstFailing (suc n) ts →
     firstFailing (suc n) (bothOf ts us) ≡ lower (firstFailing (suc n) ts) (firstFailing (suc n) us)

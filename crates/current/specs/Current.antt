@@ -1,12 +1,11 @@
 -- The current state, and its numbers.
 use Prim.Native.Nat.{ℕ, _*_}
-use mathlib.Core.Bool.{cond}
-use mathlib.Core.List.{List}
+use mathlib.Core.Bool.{Bool, cond, _&&_}
+use mathlib.Core.List.{List, [], _∷_}
 use lib.Dec.{eqb}
-use Rattle.flag.specs.Flag.{firstFailing, bothOf}
 use Rattle.device.specs.declared.State.{State}
 use Rattle.device.specs.State.{freshOf, withRegisters, withIer}
-use Rattle.device.specs.Ranges.{parts, partOf}
+use Rattle.device.specs.Ranges.{parts, firstFailing, partOf}
 use Rattle.current.specs.declared.Session.{Session}
 use Rattle.numbers.specs.Numbers.{stateCount, numbersOf, fitting, fits, stateOf}
 
@@ -16,6 +15,12 @@ held s = record { state = s; unfit = 0 }
 -- the state that stands for numbers which do not fit: every call refuses it
 abbrev pub unfitState : State
 unfitState = withRegisters freshOf (withIer (freshOf .registers) 255)
+
+-- of two lists of tests in the same order, whether both tests at each place hold
+abbrev pub bothOf : List Bool → List Bool → List Bool
+bothOf [] us = []
+bothOf (t ∷ ts) [] = []
+bothOf (t ∷ ts) (u ∷ us) = (t && u) ∷ bothOf ts us
 
 -- the part that is bad of loaded numbers: one that its place's type can't hold breaks that place's range, and a lower
 -- part that is broken too still stands

@@ -10,6 +10,7 @@ pub mod Receiver
 pub mod Idle
 pub mod Tick
 pub mod Ranges
+pub mod Parts
 pub mod Rbr
 pub mod Thr
 pub mod Ier

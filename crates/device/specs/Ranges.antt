@@ -1,11 +1,11 @@
 -- A well-formed state obeys these ranges; any other is refused (document 01, "The state"). They come in the five parts
 -- of document 02 b); a range that joins two parts stands in the later one. That an array has 64 places and a byte is
 -- below 256 is what the types of src/lib.rt say, and no range.
-use Prim.Native.Nat.{ℕ, _-_, _^_, min}
+use Prim.Native.Nat.{ℕ, suc, _-_, _^_, min}
 use mathlib.Core.Bool.{Bool, cond, not, _&&_, _||_}
 use mathlib.Core.List.{List, [], _∷_, _++_}
 use lib.Dec.{leb, ltb, eqb}
-use Rattle.flag.specs.Flag.{on, bit, every, implies, firstFailing}
+use Rattle.flag.specs.Flag.{on, bit, every, implies}
 use Rattle.frame.specs.Format.{dataBits, parityBits, frameLength}
 use Rattle.queue.specs.declared.ByteQueue.{ByteQueue}
 use Rattle.queue.specs.declared.EntryQueue.{EntryQueue}
@@ -120,6 +120,11 @@ parts s =
 -- every range of every part holds
 unfoldable pub wellFormed : State → Bool
 wellFormed s = every (parts s)
+
+-- the place of the first test of a list that fails, counted from n; 0 where every one holds
+abbrev pub firstFailing : ℕ → List Bool → ℕ
+firstFailing n [] = 0
+firstFailing n (t ∷ ts) = cond t (firstFailing (suc n) ts) n
 
 -- the part that is bad (document 02 b): the lowest that breaks a range; 0 exactly where the state is well formed
 unfoldable pub partOf : State → ℕ

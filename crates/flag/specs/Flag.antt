@@ -1,5 +1,5 @@
 -- Flags and tests. What the definitions of the other crates are made of.
-use Prim.Native.Nat.{ℕ, suc, _+_, _*_, _/_, _%_, _^_}
+use Prim.Native.Nat.{ℕ, _+_, _*_, _/_, _%_, _^_}
 use mathlib.Core.Bool.{Bool, true, false, cond, not, _&&_, _||_}
 use mathlib.Core.List.{List, [], _∷_}
 use lib.Dec.{eqb}
@@ -33,17 +33,6 @@ differ a b = cond a (not b) b
 abbrev pub every : List Bool → Bool
 every [] = true
 every (t ∷ ts) = t && every ts
-
--- the place of the first test of a list that fails, counted from n; 0 where every one holds
-abbrev pub firstFailing : ℕ → List Bool → ℕ
-firstFailing n [] = 0
-firstFailing n (t ∷ ts) = cond t (firstFailing (suc n) ts) n
-
--- of two lists of tests in the same order, whether both tests at each place hold
-abbrev pub bothOf : List Bool → List Bool → List Bool
-bothOf [] us = []
-bothOf (t ∷ ts) [] = []
-bothOf (t ∷ ts) (u ∷ us) = (t && u) ∷ bothOf ts us
 
 -- every element of a list passes the test p
 abbrev pub allOf : {A : Type 0} → (A → Bool) → List A → Bool

@@ -30,10 +30,8 @@ fn refused(s: State) -> Refusal
 {
     let part = part_of(s);
     if part != NONE {
-        return Refusal {
-            number: answer::MALFORMED,
-            part,
-        };
+        let number = answer::MALFORMED;
+        return Refusal { number, part };
     }
     Refusal {
         number: forecast::number(s),

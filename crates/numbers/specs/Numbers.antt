@@ -4,7 +4,7 @@ use mathlib.Core.Bool.{Bool, _&&_}
 use mathlib.Core.List.{List, [], _∷_, _++_, map}
 use lib.ListN.{take, drop, getD}
 use lib.Dec.{leb}
-use Rattle.flag.specs.Flag.{every, firstFailing, allOf}
+use Rattle.flag.specs.Flag.{every, allOf}
 use Rattle.queue.specs.declared.ByteQueue.{ByteQueue}
 use Rattle.queue.specs.declared.Entry.{Entry}
 use Rattle.queue.specs.declared.EntryQueue.{EntryQueue}
@@ -16,6 +16,7 @@ use Rattle.device.specs.declared.Frame.{Frame}
 use Rattle.device.specs.declared.Receiver.{Receiver}
 use Rattle.device.specs.declared.Latches.{Latches}
 use Rattle.device.specs.declared.State.{State}
+use Rattle.device.specs.Ranges.{firstFailing}
 
 -- The numbers of a state.
 
