@@ -35,12 +35,12 @@ fn no_outputs() -> Outputs
 }
 
 // The answer of a refusal, where this part of the state is bad: the state as it was.
-fn refused(number: u8, part: u8, s: State) -> Answer
-    ensures { λ r. ⌜ r ≡ «refused-of» number part s ⌝ }
+fn refused(number: u8, bad: u8, s: State) -> Answer
+    ensures { λ r. ⌜ r ≡ «refused-of» number bad s ⌝ }
 {
     Answer {
         number,
-        part,
+        part: bad,
         byte: 0,
         outputs: no_outputs(),
         state: s,
