@@ -176,10 +176,10 @@ struct uart_outputs {
 /* What a step answers: the byte read, the pins after it, the next state. */
 struct uart_answer {
     uint8_t number;
-    uint8_t part;
     uint8_t byte;
     struct uart_outputs outputs;
     struct uart_state state;
+    uint8_t part;
 };
 
 /* What the look at the pins answers. */
@@ -470,15 +470,15 @@ UART_AT(uart_entry, bi, 3);
 
 UART_STATIC_ASSERT(sizeof(struct uart_answer) == 388, "uart_answer");
 UART_AT(uart_answer, number, 0);
-UART_AT(uart_answer, part, 1);
-UART_AT(uart_answer, byte, 2);
-UART_AT(uart_answer, outputs.sout, 3);
-UART_AT(uart_answer, outputs.rts, 4);
-UART_AT(uart_answer, outputs.dtr, 5);
-UART_AT(uart_answer, outputs.out1, 6);
-UART_AT(uart_answer, outputs.out2, 7);
-UART_AT(uart_answer, outputs.intrpt, 8);
-UART_AT(uart_answer, state, 12);
+UART_AT(uart_answer, byte, 1);
+UART_AT(uart_answer, outputs.sout, 2);
+UART_AT(uart_answer, outputs.rts, 3);
+UART_AT(uart_answer, outputs.dtr, 4);
+UART_AT(uart_answer, outputs.out1, 5);
+UART_AT(uart_answer, outputs.out2, 6);
+UART_AT(uart_answer, outputs.intrpt, 7);
+UART_AT(uart_answer, state, 8);
+UART_AT(uart_answer, part, 384);
 
 UART_STATIC_ASSERT(sizeof(struct uart_looked) == 8, "uart_looked");
 UART_AT(uart_looked, number, 0);

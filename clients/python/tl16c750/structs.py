@@ -337,10 +337,10 @@ class Answer(Struct):
     """What a step answers: the byte read, the pins after it, the next state."""
 
     number: U8
-    part: U8
     byte: U8
     outputs: Outputs
     state: State
+    part: U8
 
 
 @_struct

@@ -181,14 +181,14 @@ pub struct Outputs {
 pub struct Answer {
     /// 0, or the number of a refusal.
     pub number: u8,
-    /// The part of the state that is bad; 0 with another number than 1.
-    pub part: u8,
     /// The byte read; 0 where nothing is read.
     pub byte: u8,
     /// The pins after the step.
     pub outputs: Outputs,
     /// The next state.
     pub state: State,
+    /// The part of the state that is bad; 0 with another number than 1.
+    pub part: u8,
 }
 
 /// What the look at the pins answers.

@@ -243,12 +243,13 @@ pub struct Ran {
     pub state: State,
 }
 
-// What a step answers.
+// What a step answers. The part stands last: before the state it would move it from a multiple of eight
+// bytes, and copies take longer.
 #[repr(C)]
 pub struct Answer {
     pub number: u8,
-    pub part: u8,
     pub byte: u8,
     pub outputs: Outputs,
     pub state: State,
+    pub part: u8,
 }

@@ -97,7 +97,7 @@ abbrev pub outputsShape : Shape
 outputsShape = structOf (byte ∷ byte ∷ byte ∷ byte ∷ byte ∷ byte ∷ [])
 
 abbrev pub answerShape : Shape
-answerShape = structOf (byte ∷ byte ∷ byte ∷ outputsShape ∷ stateShape ∷ [])
+answerShape = structOf (byte ∷ byte ∷ outputsShape ∷ stateShape ∷ byte ∷ [])
 
 abbrev pub lookedShape : Shape
 lookedShape = structOf (byte ∷ byte ∷ outputsShape ∷ [])
