@@ -32,7 +32,7 @@ saidOf s kept ns Command.Forecast = lineOf (forecastNumbers (forecastOf (s .stat
 saidOf s kept ns (Command.Level t) = lineOf (levelNumbers (levelOf (s .state) t))
 saidOf s kept ns (Command.Run n) = lineOf (runNumbers (runOf (s .state) n))
 saidOf s kept ns (Command.Replay v n) = outcomeLine (replayedOf (s .state) v ns .outcome)
-saidOf s kept ns Command.Part = lineOf (partNumbers (currentPart s))
+saidOf s kept ns Command.Part = lineOf (partNumbers (currentPart s kept))
 saidOf s kept ns Command.Bad = text "bad\n"
 
 -- The current state after a command.

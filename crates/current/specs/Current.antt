@@ -1,8 +1,7 @@
 -- The current state, and its numbers.
 use Prim.Native.Nat.{ℕ, _*_}
-use mathlib.Core.Bool.{Bool, cond, _&&_}
+use mathlib.Core.Bool.{Bool, true, false, cond, _&&_}
 use mathlib.Core.List.{List, [], _∷_}
-use lib.Dec.{eqb}
 use Rattle.device.specs.declared.State.{State}
 use Rattle.device.specs.State.{freshOf, withRegisters, withIer}
 use Rattle.device.specs.Ranges.{parts, firstFailing, partOf}
@@ -10,11 +9,19 @@ use Rattle.current.specs.declared.Session.{Session}
 use Rattle.numbers.specs.Numbers.{stateCount, numbersOf, fitting, fits, stateOf}
 
 abbrev pub held : State → Session
-held s = record { state = s; unfit = 0 }
+held s = record { state = s; fits = true }
 
 -- the state that stands for numbers which do not fit: every call refuses it
 abbrev pub unfitState : State
 unfitState = withRegisters freshOf (withIer (freshOf .registers) 255)
+
+-- after `load` of these numbers
+unfoldable pub loadedOf : List ℕ → Session
+loadedOf ns = cond (fits ns) (held (stateOf ns)) (record { state = unfitState; fits = false })
+
+-- the numbers of the current state, of which kept were loaded last
+unfoldable pub currentNumbers : Session → List ℕ → List ℕ
+currentNumbers s kept = cond (s .fits) (numbersOf (s .state)) kept
 
 -- of two lists of tests in the same order, whether both tests at each place hold
 abbrev pub bothOf : List Bool → List Bool → List Bool
@@ -27,21 +34,13 @@ bothOf (t ∷ ts) (u ∷ us) = (t && u) ∷ bothOf ts us
 unfoldable pub loadedPart : List ℕ → ℕ
 loadedPart ns = firstFailing 1 (bothOf (fitting ns) (parts (stateOf ns)))
 
--- after `load` of these numbers
-unfoldable pub loadedOf : List ℕ → Session
-loadedOf ns = cond (fits ns) (held (stateOf ns)) (record { state = unfitState; unfit = loadedPart ns })
-
--- the numbers of the current state, of which kept were loaded last
-unfoldable pub currentNumbers : Session → List ℕ → List ℕ
-currentNumbers s kept = cond (eqb (s .unfit) 0) (numbersOf (s .state)) kept
-
--- the part of the current state that is bad
-unfoldable pub currentPart : Session → ℕ
-currentPart s = cond (eqb (s .unfit) 0) (partOf (s .state)) (s .unfit)
+-- the part of the current state that is bad, of which kept were loaded last
+unfoldable pub currentPart : Session → List ℕ → ℕ
+currentPart s kept = cond (s .fits) (partOf (s .state)) (loadedPart kept)
 
 -- with another state of the model
 abbrev pub moved : Session → State → Session
-moved s t = record { state = t; unfit = s .unfit }
+moved s t = record { state = t; fits = s .fits }
 
 -- the longest answer, `state`'s: ten digits and the byte after them for each number
 abbrev pub longestAnswer : ℕ

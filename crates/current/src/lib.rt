@@ -10,7 +10,7 @@ ghost use mathlib.Core.Bool.{cond, _&&_};
 ghost use mathlib.Core.List.{[], _∷_};
 ghost use Prim.Native.Nat.{_+_, _≤_};
 ghost use lib.ListN.{length};
-ghost use lib.Dec.{ltb};
+ghost use lib.Dec.{ltb, eqb};
 ghost use Rattle.device.specs.State.{freshOf};
 ghost use Rattle.device.specs.Forecast.{runOf};
 ghost use Rattle.capture.specs.Replay.{replayOf};
@@ -19,16 +19,16 @@ ghost use Rattle.text.specs.Decimal.{lineOf};
 ghost use Rattle.numbers.specs.Numbers.{stateCount};
 ghost use Rattle.outcome.specs.Outcome.{outcomeLine};
 ghost use Rattle.reply.specs.Reply.{stepOf, stepNumbers, partNumbers, runNumbers};
-ghost use Rattle.current.specs.Current.{held, unfitState, loadedOf, currentNumbers, currentPart, longestAnswer, moved};
+ghost use Rattle.current.specs.Current.{held, unfitState, loadedOf, currentNumbers, loadedPart, currentPart, longestAnswer, moved};
 
 // The longest answer: the numbers of a state, each of ten digits with a space or the newline after it.
 pub const LONGEST_ANSWER: usize = 11 * numbers::COUNT;
 
 // The current state. Where loaded numbers do not fit the model's types, it is one that every call
-// refuses, the numbers are kept apart, and `unfit` is their part that is bad; else `unfit` is 0.
+// refuses, and the numbers are kept apart.
 pub struct Session {
     pub state: State,
-    pub unfit: u8,
+    pub fits: bool,
 }
 
 // The current state after a command, and the end of its answer in the buffer.
@@ -43,12 +43,12 @@ pub fn start() -> Session
 {
     Session {
         state: uart::fresh(),
-        unfit: NONE,
+        fits: true,
     }
 }
 
 // A state that every call refuses.
-fn unfit_state() -> State
+fn unfit() -> State
     ensures { λ r. ⌜ r ≡ unfitState ⌝ }
 {
     let mut s = uart::fresh();
@@ -56,30 +56,20 @@ fn unfit_state() -> State
     s
 }
 
-// The lower of two parts that are bad; the second is 0 where there is none.
-fn lower(unfit: u8, part: u8) -> u8
-    ensures { λ r. ⌜ r ≡ cond (ltb 0 part && ltb part unfit) part unfit ⌝ }
-{
-    if both(NONE < part, part < unfit) {
-        return part;
-    }
-    unfit
-}
-
 // The current state after `load` of these numbers.
 fn loaded(n: &[u32]) -> Session
     requires { ⌜ length (now n) ≡ stateCount ⌝ }
     ensures { λ r. ⌜ r ≡ loadedOf (now (n .entry)) ⌝ }
 {
-    let unfit = load::unfit_part(n);
-    let state = load::state_of(n);
-    if unfit == NONE {
-        return Session { state, unfit };
+    if load::unfit_part(n) == NONE {
+        return Session {
+            state: load::state_of(n),
+            fits: true,
+        };
     }
-    let part = ranges::part_of(state);
     Session {
-        state: unfit_state(),
-        unfit: lower(unfit, part),
+        state: unfit(),
+        fits: false,
     }
 }
 
@@ -89,7 +79,7 @@ pub fn put_current(s: Session, kept: &[u32], out: &mut [u8], at: usize) -> usize
     requires { ⌜ at + longestAnswer ≤ length (now out) ⌝ }
     ensures { λ r. ⌜ Appended (now (out .entry)) at (lineOf (currentNumbers s (now (kept .entry)))) (now (out .exit)) r ⌝ }
 {
-    if s.unfit == NONE {
+    if s.fits {
         let mut n = [0u32; numbers::COUNT];
         let t = s.state;
         numbers::put_state(t, &mut n);
@@ -98,24 +88,48 @@ pub fn put_current(s: Session, kept: &[u32], out: &mut [u8], at: usize) -> usize
     decimal::put_line(kept, out, at)
 }
 
-// The part of the current state that is bad.
-fn bad_part(s: Session) -> u8
-    ensures { λ r. ⌜ r ≡ currentPart s ⌝ }
+// The lower of two parts that are bad, of which 0 is none.
+fn lower(a: u8, b: u8) -> u8
+    ensures { λ r. ⌜ r ≡ cond (eqb a 0) b (cond (ltb 0 b && ltb b a) b a) ⌝ }
 {
-    let part = s.unfit;
-    if part != NONE {
-        return part;
+    if a == NONE {
+        return b;
     }
-    let t = s.state;
-    ranges::part_of(t)
+    if both(NONE < b, b < a) {
+        return b;
+    }
+    a
+}
+
+// The part that is bad of loaded numbers.
+fn loaded_part(n: &[u32]) -> u8
+    requires { ⌜ length (now n) ≡ stateCount ⌝ }
+    ensures { λ r. ⌜ r ≡ loadedPart (now (n .entry)) ⌝ }
+{
+    let unfit = load::unfit_part(n);
+    let part = ranges::part_of(load::state_of(n));
+    lower(unfit, part)
+}
+
+// The part of the current state that is bad.
+fn bad_part(s: Session, kept: &[u32]) -> u8
+    requires { ⌜ length (now kept) ≡ stateCount ⌝ }
+    ensures { λ r. ⌜ r ≡ currentPart s (now (kept .entry)) ⌝ }
+{
+    if s.fits {
+        let t = s.state;
+        return ranges::part_of(t);
+    }
+    loaded_part(kept)
 }
 
 // Puts whether a part of the current state is bad, and which.
-pub fn put_part(s: Session, out: &mut [u8], at: usize) -> usize
+pub fn put_part(s: Session, kept: &[u32], out: &mut [u8], at: usize) -> usize
+    requires { ⌜ length (now kept) ≡ stateCount ⌝ }
     requires { ⌜ at + 22 ≤ length (now out) ⌝ }
-    ensures { λ r. ⌜ Appended (now (out .entry)) at (lineOf (partNumbers (currentPart s))) (now (out .exit)) r ⌝ }
+    ensures { λ r. ⌜ Appended (now (out .entry)) at (lineOf (partNumbers (currentPart s (now (kept .entry))))) (now (out .exit)) r ⌝ }
 {
-    let part = bad_part(s);
+    let part = bad_part(s, kept);
     let number = flag::bit(NONE < part);
     reply::put_pair(number, numbers::wide(part), out, at)
 }
@@ -134,7 +148,7 @@ pub fn stepped(s: Session, c: Call, out: &mut [u8], at: usize) -> Said
     Said {
         session: Session {
             state,
-            unfit: s.unfit,
+            fits: s.fits,
         },
         end,
     }
@@ -153,7 +167,7 @@ pub fn ran(s: Session, n: u32, out: &mut [u8], at: usize) -> Said
     Said {
         session: Session {
             state,
-            unfit: s.unfit,
+            fits: s.fits,
         },
         end,
     }
@@ -173,7 +187,7 @@ pub fn replayed(s: Session, version: u32, records: &[u32], out: &mut [u8], at: u
     Said {
         session: Session {
             state,
-            unfit: s.unfit,
+            fits: s.fits,
         },
         end,
     }

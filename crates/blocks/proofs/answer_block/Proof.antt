@@ -48,7 +48,7 @@ returns-2 : tie.Need-returns-2 Inv-loop μ-loop
 returns-2 c = (λ e. absurd (false≢true (sym (not-true _ (c .if2 .taken)) ∙ e)), c .before .before .before .before .before .loop .inv .1 .1 .1 .1 .inside)
 
 answer-some-requires : tie.Need-answer-some-requires Inv-loop μ-loop
-answer-some-requires c κs = (search needs, (search needs, c .before .before .before .before .before .before .before .before .loop .inv .1 .0 ∙ c .before .before .before .before .before .before .before .before .before .before .before .before .before .pre .1 .0))
+answer-some-requires c κs = search needs
 
 sub-turns : tie.Need-sub-turns Inv-loop μ-loop
 sub-turns c = search needs

@@ -3,7 +3,6 @@ use Rattle.command.specs.Command.{longestLine}
 use Prim.Native.Nat.{suc, _≤_}
 use mathlib.Core.Path.{_≡_, _∙_}
 use lib.ListN.{length}
-use native.Mathlib.Omega.{arith}
 use borrow.Author.Needs.{needs}
 use Rattle.calls.proofs.serve.Statement.{statement}
 use Rattle.calls.proofs.serve.Tie as tie
@@ -36,10 +35,7 @@ returns : tie.Need-returns Inv-loop μ-loop
 returns c = tt
 
 turn-requires : tie.Need-turn-requires Inv-loop μ-loop
-turn-requires c κs =
-    let i = c .before .before .before .before .before .before .before .loop .inv in
-    let pre = c .before .before .before .before .before .before .before .before .before .before .before .before .before .pre in
-    (search needs, (search needs, (search needs, (i .1 .0 ∙ pre .1 .1 .0, omega (arith, i .1 .1 .0, pre .1 .1 .1)))))
+turn-requires c κs = search needs
 
 sub-turns : tie.Need-sub-turns Inv-loop μ-loop
 sub-turns c = search needs

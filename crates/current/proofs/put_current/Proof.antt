@@ -5,7 +5,6 @@ use Rattle.current.specs.Current.{currentNumbers}
 use mathlib.Core.Path.{_≡_}
 use lib.ListN.{length}
 use native.Mathlib.Omega.{arith}
-use borrow.Author.Tests.{eq-eqb, ne-eqb}
 use borrow.Author.Needs.{needs}
 use Rattle.current.proofs.put_current.Statement.{statement}
 use Rattle.current.proofs.put_current.Tie as tie
@@ -22,24 +21,24 @@ slice-aggregate-put-line c = search needs
 put-line-requires : tie.Need-put-line-requires
 put-line-requires c κs =
     let long : length (c .before .before .before .put-state .last .1 .0) ≡ stateCount = c .before .before .before .put-state .kept .1 .0 in
-    omega (arith, line-room (c .before .before .before .put-state .last .1 .0), c .before .before .before .before .before .before .before .before .before .before .pre .1)
+    omega (arith, line-room (c .before .before .before .put-state .last .1 .0), c .before .before .before .before .before .before .before .before .before .pre .1)
 
 same-length : tie.Need-same-length
 same-length c = c .before .before .put-line .kept .1 .0
 
 returns : tie.Need-returns
 unfolding currentNumbers
-returns c = simp (eq-eqb _ _ (c .before .before .before .before .before .before .before .before .before .if1 .taken)) (rw (c .before .before .before .before .before .before .put-state .ensures) at (c .before .before .put-line .ensures))
+returns c = simp (c .before .before .before .before .before .before .before .before .before .if1 .taken) (rw (c .before .before .before .before .before .before .put-state .ensures) at (c .before .before .put-line .ensures))
 
 put-line-requires-2 : tie.Need-put-line-requires-2
-put-line-requires-2 c κs = omega (arith, line-room (c .before .before .before .before .before .args .kept .now), c .before .before .before .before .before .pre .0, c .before .before .before .before .before .pre .1)
+put-line-requires-2 c κs = omega (arith, line-room (c .before .before .before .before .args .kept .now), c .before .before .before .before .pre .0, c .before .before .before .before .pre .1)
 
 same-length-2 : tie.Need-same-length-2
 same-length-2 c = c .before .before .put-line2 .kept .1 .0
 
 returns-2 : tie.Need-returns-2
 unfolding currentNumbers
-returns-2 c = simp (ne-eqb _ _ (c .before .before .before .before .if1 .left)) (c .before .before .put-line2 .ensures)
+returns-2 c = simp (c .before .before .before .before .if1 .left) (c .before .before .put-line2 .ensures)
 
 pub put-current-spec : {M : Type 1} → statement M
 put-current-spec =

@@ -2,8 +2,8 @@
 use Rattle.device.specs.declared.State.{State}
 use Rattle.device.specs.State.{withRegisters, withIer}
 use mathlib.Core.Path.{ap}
-use Rattle.current.proofs.unfit_state.Statement.{statement}
-use Rattle.current.proofs.unfit_state.Tie as tie
+use Rattle.current.proofs.unfit.Statement.{statement}
+use Rattle.current.proofs.unfit.Tie as tie
 
 fresh-requires : tie.Need-fresh-requires
 fresh-requires c κs = tt
@@ -11,5 +11,5 @@ fresh-requires c κs = tt
 returns : tie.Need-returns
 returns c = ap (λ (s : State). withRegisters s (withIer (s .registers) 255)) (c .before .fresh .ensures)
 
-pub unfit-state-spec : {M : Type 1} → statement M
-unfit-state-spec = tie.close (tie.spec fresh-requires returns)
+pub unfit-spec : {M : Type 1} → statement M
+unfit-spec = tie.close (tie.spec fresh-requires returns)
