@@ -1,58 +1,55 @@
--- The part of loaded numbers: the lower of the first part with one that does not fit, and the part of the state that the
--- numbers make when each is cut to its type.
-use Prim.Native.Nat.{ℕ, suc, _≤_, _<_}
-use mathlib.Core.Path.{_≡_, refl, sym}
+-- The part of the state after `load` is that of the numbers.
+use Prim.Native.Nat.{ℕ}
+use mathlib.Core.Path.{_≡_, refl, ap, _∙_}
 use mathlib.Core.Bool.{Bool, true, false, cond, _&&_}
 use mathlib.Core.List.{List, [], _∷_}
-use lib.ListN.{length}
-use lib.Dec.{ltb, eqb}
-use native.Mathlib.Decide.{decLt}
-use native.Mathlib.Omega.{arith}
-use borrow.Author.Tests.{lt-ltb, le-ltb, eq-eqb, ne-eqb}
-use Rattle.device.specs.Ranges.{parts, firstFailing, partOf}
-use Rattle.device.proofs.Parts.{above}
-use Rattle.numbers.specs.Numbers.{fitting, unfitPart, stateOf}
-use Rattle.current.specs.Current.{bothOf, loadedPart}
+use Rattle.flag.specs.Flag.{every}
+use Rattle.flag.proofs.Laws.{cond-map}
+use Rattle.text.proofs.Tests.{and-false}
+use Rattle.queue.specs.declared.ByteQueue.{ByteQueue}
+use Rattle.queue.specs.declared.EntryQueue.{EntryQueue}
+use Rattle.device.specs.declared.Registers.{Registers}
+use Rattle.device.specs.declared.FifoControl.{FifoControl}
+use Rattle.device.specs.declared.Receiver.{Receiver}
+use Rattle.device.specs.declared.Latches.{Latches}
+use Rattle.device.specs.declared.State.{State}
+use Rattle.device.specs.State.{withOverrun}
+use Rattle.device.specs.Ranges.{settingRanges, transmitRanges, receiveRanges, latchRanges, parts, firstFailing, partOf}
+use Rattle.numbers.specs.Numbers.{bytesIn, fitting, fits, unfitPart, stateOf}
+use Rattle.current.specs.declared.Session.{Session}
+use Rattle.current.specs.Current.{outOfPhase, broken, bothOf, loadedOf, loadedPart}
 
--- the lower of two parts, of which 0 is none
-abbrev lower : ℕ → ℕ → ℕ
-lower a b = cond (eqb a 0) b (cond (ltb 0 b && ltb b a) b a)
+-- A broken field breaks its part.
 
-lower-second : (a b : ℕ) → 0 < b → (0 < a → b < a) → lower a b ≡ b
-lower-second a b h f = go (decLt 0 a)
-  where
-    go : Dec (0 < a) → lower a b ≡ b
-    go (yes k) =
-        let n : (a ≡ 0 → ⊥) = λ e. omega (arith, e, k) in
-        simp (ne-eqb _ _ n, lt-ltb _ _ h, lt-ltb _ _ (f k))
-    go (no n) =
-        let z : a ≡ 0 = omega (arith, n) in
-        simp (eq-eqb _ _ z)
+settings-broken : (f : FifoControl) (m : ℕ) → every (settingRanges f (record { modem = m; sin = 255 })) ≡ false
+settings-broken f m = simp and-false
 
-lower-first : (a b : ℕ) → 0 < a → (0 < b → a ≤ b) → lower a b ≡ a
-lower-first a b h f = go (decLt 0 b)
-  where
-    some : a ≡ 0 → ⊥
-    some e = omega (arith, e, h)
+transmit-broken : (f : FifoControl) (q : ByteQueue) (l b : ℕ) → every (transmitRanges f q (record { left = l; byte = b; format = 255 })) ≡ false
+transmit-broken f q l b = simp and-false
 
-    go : Dec (0 < b) → lower a b ≡ a
-    go (yes k) = simp (ne-eqb _ _ some, lt-ltb _ _ k, le-ltb _ _ (f k))
-    go (no n) =
-        let z : b ≤ 0 = omega (arith, n) in
-        simp (ne-eqb _ _ some, le-ltb _ _ z)
+receive-broken : (f : FifoControl) (q : EntryQueue) (v : Receiver) → every (receiveRanges f q (outOfPhase v)) ≡ false
+receive-broken f q v = simp and-false
 
-first-both : (n : ℕ) (ts us : List Bool) → length ts ≡ length us →
-    firstFailing (suc n) (bothOf ts us) ≡ lower (firstFailing (suc n) ts) (firstFailing (suc n) us)
-first-both n [] [] l = refl
-first-both n [] (u ∷ us) l = absurd (omega (arith, l))
-first-both n (t ∷ ts) [] l = absurd (omega (arith, l))
-first-both n (true ∷ ts) (true ∷ us) l = first-both (suc n) ts us (omega (arith, l))
-first-both n (true ∷ ts) (false ∷ us) l =
-    sym (lower-second (firstFailing (suc (suc n)) ts) (suc n) (omega arith) (above (suc n) ts))
-first-both n (false ∷ ts) (true ∷ us) l =
-    sym (lower-first (suc n) (firstFailing (suc (suc n)) us) (omega arith) (λ (k : 0 < firstFailing (suc (suc n)) us). omega (arith, above (suc n) us k)))
-first-both n (false ∷ ts) (false ∷ us) l = sym (lower-first (suc n) (suc n) (omega arith) (λ k. omega arith))
+latches-broken : (r : Registers) (f : FifoControl) (m n : ℕ) (l : Latches) → every (latchRanges r f m n (withOverrun l 255)) ≡ false
+latches-broken r f m n l = simp and-false
 
-pub loaded-part : (ns : List ℕ) → lower (unfitPart ns) (partOf (stateOf ns)) ≡ loadedPart ns
-unfolding loadedPart unfitPart partOf
-loaded-part ns = sym (first-both 0 (fitting ns) (parts (stateOf ns)) refl)
+-- the state where the five parts' numbers fit so
+abbrev after : List Bool → State → State
+after ts s = cond (every ts) s (broken (firstFailing 1 ts) s)
+
+-- the ranges before the first part that does not fit stand, and then that part
+part-after : (s : State) (a b c d e : Bool) →
+    firstFailing 1 (parts (after (a ∷ b ∷ c ∷ d ∷ e ∷ []) s)) ≡ firstFailing 1 (bothOf (a ∷ b ∷ c ∷ d ∷ e ∷ []) (parts s))
+unfolding broken
+part-after s true true true true true = refl
+part-after s false b c d e = refl
+part-after s true false c d e = rw (settings-broken (s .fifo) (s .inputs .modem)) refl
+part-after s true true false d e = rw (transmit-broken (s .fifo) (s .tx) (s .frame .left) (s .frame .byte)) refl
+part-after s true true true false e = rw (receive-broken (s .fifo) (s .rx) (s .receiver)) refl
+part-after s true true true true false = rw (latches-broken (s .registers) (s .fifo) (s .tx .count) (s .rx .count) (s .latches)) refl
+
+pub load-part : (ns : List ℕ) → partOf (loadedOf ns .state) ≡ loadedPart ns
+unfolding loadedOf fits unfitPart loadedPart partOf
+load-part ns =
+    ap (λ (s : State). firstFailing 1 (parts s)) (cond-map (λ (t : Session). t .state) (every (fitting ns)) _ _ _ _ refl refl)
+    ∙ part-after (stateOf ns) (bytesIn 1 4 ns) (bytesIn 7 12 ns) (bytesIn 14 77 ns && bytesIn 79 80 ns) (bytesIn 82 338 ns && bytesIn 340 342 ns) (bytesIn 343 345 ns && bytesIn 347 348 ns)

@@ -15,7 +15,7 @@ use Rattle.text.specs.Text.{text}
 use Rattle.text.specs.Decimal.{lineOf}
 use Rattle.outcome.specs.Outcome.{outcomeLine}
 use Rattle.reply.specs.Reply.{stepOf, stepNumbers, lookNumbers, forecastNumbers, levelNumbers, partNumbers, runNumbers}
-use Rattle.current.specs.Current.{held, loadedOf, currentNumbers, currentPart, moved}
+use Rattle.current.specs.Current.{held, loadedOf, currentNumbers, moved}
 
 -- replay of a line's records, which follow the version in its numbers ns
 abbrev pub replayedOf : State → ℕ → List ℕ → Replayed
@@ -32,7 +32,7 @@ saidOf s kept ns Command.Forecast = lineOf (forecastNumbers (forecastOf (s .stat
 saidOf s kept ns (Command.Level t) = lineOf (levelNumbers (levelOf (s .state) t))
 saidOf s kept ns (Command.Run n) = lineOf (runNumbers (runOf (s .state) n))
 saidOf s kept ns (Command.Replay v n) = outcomeLine (replayedOf (s .state) v ns .outcome)
-saidOf s kept ns Command.Part = lineOf (partNumbers (currentPart s kept))
+saidOf s kept ns Command.Part = lineOf (partNumbers (pinsOf (s .state)))
 saidOf s kept ns Command.Bad = text "bad\n"
 
 -- The current state after a command.

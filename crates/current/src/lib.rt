@@ -2,30 +2,28 @@
 // answer into a lent buffer.
 use command::Call;
 use device::State;
-use flag::both;
-use sheet::part::NONE;
+use sheet::part;
 use text::decimal;
 ghost use mathlib.Core.Path.{_≡_};
-ghost use mathlib.Core.Bool.{cond, _&&_};
 ghost use mathlib.Core.List.{[], _∷_};
 ghost use Prim.Native.Nat.{_+_, _≤_};
 ghost use lib.ListN.{length};
-ghost use lib.Dec.{ltb, eqb};
 ghost use Rattle.device.specs.State.{freshOf};
+ghost use Rattle.device.specs.Ranges.{partOf};
 ghost use Rattle.device.specs.Forecast.{runOf};
 ghost use Rattle.capture.specs.Replay.{replayOf};
 ghost use Rattle.text.specs.Text.{Appended};
 ghost use Rattle.text.specs.Decimal.{lineOf};
 ghost use Rattle.numbers.specs.Numbers.{stateCount};
 ghost use Rattle.outcome.specs.Outcome.{outcomeLine};
-ghost use Rattle.reply.specs.Reply.{stepOf, stepNumbers, partNumbers, runNumbers};
-ghost use Rattle.current.specs.Current.{held, unfitState, loadedOf, currentNumbers, loadedPart, currentPart, longestAnswer, moved};
+ghost use Rattle.reply.specs.Reply.{stepOf, stepNumbers, runNumbers};
+ghost use Rattle.current.specs.Current.{held, broken as «broken-in», loadedOf, loadedPart, currentNumbers, longestAnswer, moved};
 
 // The longest answer: the numbers of a state, each of ten digits with a space or the newline after it.
 pub const LONGEST_ANSWER: usize = 11 * numbers::COUNT;
 
 // The current state. Where loaded numbers do not fit the model's types, it is one that every call
-// refuses, and the numbers are kept apart.
+// refuses with the part of these numbers, and the numbers are kept apart.
 pub struct Session {
     pub state: State,
     pub fits: bool,
@@ -47,13 +45,19 @@ pub fn start() -> Session
     }
 }
 
-// A state that every call refuses.
-fn unfit() -> State
-    ensures { λ r. ⌜ r ≡ unfitState ⌝ }
+// The state with a range broken in a part.
+fn broken(part: u8, s: State) -> State
+    ensures { λ r. ⌜ r ≡ «broken-in» part s ⌝ }
 {
-    let mut s = uart::fresh();
-    s.registers.ier = 255;
-    s
+    let mut t = s;
+    match part {
+        part::REGISTERS => t.registers.ier = 255,
+        part::SETTINGS => t.inputs.sin = 255,
+        part::TRANSMIT => t.frame.format = 255,
+        part::RECEIVE => t.receiver.phase = 255,
+        _ => t.latches.overrun = 255,
+    }
+    t
 }
 
 // The current state after `load` of these numbers.
@@ -61,14 +65,13 @@ fn loaded(n: &[u32]) -> Session
     requires { ⌜ length (now n) ≡ stateCount ⌝ }
     ensures { λ r. ⌜ r ≡ loadedOf (now (n .entry)) ⌝ }
 {
-    if load::unfit_part(n) == NONE {
-        return Session {
-            state: load::state_of(n),
-            fits: true,
-        };
+    let unfit = load::unfit_part(n);
+    let state = load::state_of(n);
+    if unfit == part::NONE {
+        return Session { state, fits: true };
     }
     Session {
-        state: unfit(),
+        state: broken(unfit, state),
         fits: false,
     }
 }
@@ -86,52 +89,6 @@ pub fn put_current(s: Session, kept: &[u32], out: &mut [u8], at: usize) -> usize
         return decimal::put_line(&n, out, at);
     }
     decimal::put_line(kept, out, at)
-}
-
-// The lower of two parts that are bad, of which 0 is none.
-fn lower(a: u8, b: u8) -> u8
-    ensures { λ r. ⌜ r ≡ cond (eqb a 0) b (cond (ltb 0 b && ltb b a) b a) ⌝ }
-{
-    if a == NONE {
-        return b;
-    }
-    if both(NONE < b, b < a) {
-        return b;
-    }
-    a
-}
-
-// The part that is bad of loaded numbers.
-fn loaded_part(n: &[u32]) -> u8
-    requires { ⌜ length (now n) ≡ stateCount ⌝ }
-    ensures { λ r. ⌜ r ≡ loadedPart (now (n .entry)) ⌝ }
-{
-    let unfit = load::unfit_part(n);
-    let part = ranges::part_of(load::state_of(n));
-    lower(unfit, part)
-}
-
-// The part of the current state that is bad.
-fn bad_part(s: Session, kept: &[u32]) -> u8
-    requires { ⌜ length (now kept) ≡ stateCount ⌝ }
-    ensures { λ r. ⌜ r ≡ currentPart s (now (kept .entry)) ⌝ }
-{
-    if s.fits {
-        let t = s.state;
-        return ranges::part_of(t);
-    }
-    loaded_part(kept)
-}
-
-// Puts whether a part of the current state is bad, and which.
-pub fn put_part(s: Session, kept: &[u32], out: &mut [u8], at: usize) -> usize
-    requires { ⌜ length (now kept) ≡ stateCount ⌝ }
-    requires { ⌜ at + 22 ≤ length (now out) ⌝ }
-    ensures { λ r. ⌜ Appended (now (out .entry)) at (lineOf (partNumbers (currentPart s (now (kept .entry))))) (now (out .exit)) r ⌝ }
-{
-    let part = bad_part(s, kept);
-    let number = flag::bit(NONE < part);
-    reply::put_pair(number, numbers::wide(part), out, at)
 }
 
 // Makes a step, and puts its answer.
@@ -211,6 +168,7 @@ pub fn load(numbers: &[u32], kept: &mut [u32], out: &mut [u8], at: usize) -> Sai
     requires { ⌜ length (now kept) ≡ stateCount ⌝ }
     requires { ⌜ at + 11 ≤ length (now out) ⌝ }
     ensures { λ r. ⌜ r .session ≡ loadedOf (now (numbers .entry)) ⌝ }
+    ensures part { λ r. ⌜ partOf (r .session .state) ≡ loadedPart (now (numbers .entry)) ⌝ }
     ensures { λ _. ⌜ now (kept .exit) ≡ now (numbers .entry) ⌝ }
     ensures { λ r. ⌜ Appended (now (out .entry)) at (lineOf (0 ∷ [])) (now (out .exit)) (r .end) ⌝ }
 {

@@ -25,7 +25,7 @@ pub fn put_answer(s: Session, c: Command, kept: &[u32], out: &mut [u8], at: usiz
         Command::Pins => reply::put_pins(t, out, at),
         Command::Forecast => reply::put_forecast(t, out, at),
         Command::Level(n) => reply::put_level(t, n, out, at),
-        Command::Part => current::put_part(s, kept, out, at),
+        Command::Part => reply::put_part(t, out, at),
         _ => buffer::put(b"bad\n", out, at),
     }
 }

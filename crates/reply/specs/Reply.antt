@@ -1,8 +1,6 @@
 -- The calls and the numbers that they answer.
 use Prim.Native.Nat.{ℕ}
 use mathlib.Core.List.{List, [], _∷_}
-use lib.Dec.{ltb}
-use Rattle.flag.specs.Flag.{bitOf}
 use Rattle.device.specs.declared.Outputs.{Outputs}
 use Rattle.device.specs.declared.Answer.{Answer}
 use Rattle.device.specs.declared.Looked.{Looked}
@@ -44,8 +42,8 @@ abbrev pub levelNumbers : Leveled → List ℕ
 levelNumbers l = l .number ∷ l .level ∷ []
 
 -- NO PART: 0 and 0, or 1 and the part that is bad
-abbrev pub partNumbers : ℕ → List ℕ
-partNumbers p = bitOf (ltb 0 p) ∷ p ∷ []
+abbrev pub partNumbers : Looked → List ℕ
+partNumbers l = l .number ∷ l .part ∷ []
 
 -- NO USED
 abbrev pub runNumbers : Ran → List ℕ

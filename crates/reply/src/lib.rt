@@ -13,7 +13,7 @@ ghost use Rattle.device.specs.Calls.{pinsOf};
 ghost use Rattle.device.specs.Forecast.{forecastOf, levelOf};
 ghost use Rattle.text.specs.Text.{Appended};
 ghost use Rattle.text.specs.Decimal.{lineOf};
-ghost use Rattle.reply.specs.Reply.{stepOf, stepNumbers, lookNumbers, forecastNumbers, levelNumbers};
+ghost use Rattle.reply.specs.Reply.{stepOf, stepNumbers, lookNumbers, partNumbers, forecastNumbers, levelNumbers};
 
 pub fn step(s: State, c: Call) -> Answer
     ensures { λ r. ⌜ r ≡ stepOf s c ⌝ }
@@ -80,6 +80,14 @@ pub fn put_pins(s: State, out: &mut [u8], at: usize) -> usize
 {
     let n = look_numbers(uart::pins(s));
     decimal::put_line(&n, out, at)
+}
+
+pub fn put_part(s: State, out: &mut [u8], at: usize) -> usize
+    requires { ⌜ at + 22 ≤ length (now out) ⌝ }
+    ensures { λ r. ⌜ Appended (now (out .entry)) at (lineOf (partNumbers (pinsOf s))) (now (out .exit)) r ⌝ }
+{
+    let a = uart::pins(s);
+    put_pair(a.number, wide(a.part), out, at)
 }
 
 pub fn put_forecast(s: State, out: &mut [u8], at: usize) -> usize

@@ -1,6 +1,9 @@
 -- The numbers fill the buffer of those that are kept.
 use Rattle.text.proofs.Texts.{appended-whole}
-use mathlib.Core.Path.{_≡_, sym, _∙_}
+use Rattle.device.specs.Ranges.{partOf}
+use Rattle.current.specs.declared.Session.{Session}
+use Rattle.current.proofs.Parts.{load-part}
+use mathlib.Core.Path.{_≡_, sym, ap, _∙_}
 use lib.ListN.{length}
 use borrow.Author.Needs.{needs}
 use Rattle.current.proofs.load.Statement.{statement}
@@ -25,7 +28,7 @@ returns : tie.Need-returns
 returns c =
     let pre = c .before .before .before .before .before .before .before .before .before .before .before .before .pre in
     let long : length (c .before .before .before .before .before .before .before .put .last .1 .0) ≡ length (c .before .before .before .before .before .before .before .before .before .before .before .before .args .numbers .now) = c .before .before .before .before .before .before .before .put .kept .1 .0 ∙ pre .1 .0 ∙ sym (pre .0) in
-    (c .loaded .ensures, (appended-whole (c .before .before .before .before .before .before .before .put .ensures) long, c .before .before .before .put-done .ensures))
+    (c .loaded .ensures, (ap (λ (s : Session). partOf (s .state)) (c .loaded .ensures) ∙ load-part _, (appended-whole (c .before .before .before .before .before .before .before .put .ensures) long, c .before .before .before .put-done .ensures)))
 
 pub load-spec : {M : Type 1} → statement M
 load-spec =

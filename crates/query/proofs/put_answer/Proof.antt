@@ -70,7 +70,7 @@ unfolding saidOf
 returns-4 c = rw (c .before .before .before .before .before .c .given .1) (c .before .before .put-level .ensures)
 
 same-length-5 : tie.Need-same-length-5
-same-length-5 c = c .before .before .put-part .kept .1 .1 .0
+same-length-5 c = c .before .before .put-part .kept .1 .0
 
 returns-5 : tie.Need-returns-5
 unfolding saidOf

@@ -89,7 +89,7 @@ same-length-4 c = c .before .before .before .before .load .kept .1 .1 .0
 
 returns-3 : tie.Need-returns-3
 unfolding nextOf keptOf saidOf
-returns-3 c = rw (c .before .before .before .before .before .before .before .before .enum-told2 .given .1) (c .before .before .before .before .load .ensures .0, (c .before .before .before .before .load .ensures .1 .0, c .before .before .before .before .load .ensures .1 .1))
+returns-3 c = rw (c .before .before .before .before .before .before .before .before .enum-told2 .given .1) (c .before .before .before .before .load .ensures .0, (c .before .before .before .before .load .ensures .1 .1 .0, c .before .before .before .before .load .ensures .1 .1 .1))
 
 same-length-5 : tie.Need-same-length-5
 same-length-5 c = c .before .before .ran .kept .1 .1 .0
