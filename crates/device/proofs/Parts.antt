@@ -26,7 +26,7 @@ none-every n (true ∷ ts) e = none-every (suc n) ts e
 none-every n (false ∷ ts) e = absurd (omega (arith, e))
 
 -- counted from suc n, a place is above n
-pub above : (n : ℕ) (ts : List Bool) → 0 < firstFailing (suc n) ts → n < firstFailing (suc n) ts
+above : (n : ℕ) (ts : List Bool) → 0 < firstFailing (suc n) ts → n < firstFailing (suc n) ts
 above n [] h = absurd (omega (arith, h))
 above n (true ∷ ts) h =
     let k = above (suc n) ts h in
