@@ -83,10 +83,12 @@ joined =
       timeout-off = refl;
       timeout-none = refl;
       idle-waits = refl;
+      idle-off = refl;
       idle-none = refl;
       cts-change = refl;
       cts-autoflow = refl;
       hold-trigger = refl;
       hold-clear = refl;
       hold-without = refl;
+      hold-none = refl;
     }

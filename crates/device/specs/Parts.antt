@@ -4,8 +4,6 @@ use Prim.Native.Nat.{ℕ, suc, _<_}
 use mathlib.Core.Path.{_≡_}
 use mathlib.Core.Bool.{true, false}
 use lib.ListN.{getD, replicate}
-use Rattle.queue.specs.declared.Entry.{Entry}
-use Rattle.device.specs.declared.FifoControl.{FifoControl}
 use Rattle.device.specs.declared.Latches.{Latches}
 use Rattle.device.specs.declared.State.{State}
 use Rattle.device.specs.State.{freshOf, withRegisters, withMcr, withFifo, withTx, withRx, withLatches, withEmpty, withOverrun, withTimeout, withIdle, withChanges, withHold}
@@ -39,7 +37,8 @@ fifoOn s = withFifo s (record { enabled = 1; size = 0; dma = 0; trigger = 0 })
 abbrev pub flowing : State → ℕ → State
 flowing s mcr = withRegisters (fifoOn s) (withMcr (s .registers) mcr)
 
--- Each range that joins two parts, broken alone, counts for the later one; the legal neighbour is well formed.
+-- Each range that joins two parts, broken alone, counts for the later one, and its legal neighbour is well formed. With
+-- them OE, for which document 02 names no part.
 pub record Joined : Type 0 where
   -- 3: the transmit count against the capacity
   pub transmit-fits : partOf (queued 1) ≡ 0
@@ -50,20 +49,22 @@ pub record Joined : Type 0 where
   -- 5: the transmit-empty latch against the transmit count
   pub empty-alone : partOf (latched freshOf (λ l. withEmpty l 1)) ≡ 0
   pub empty-queued : partOf (latched (queued 1) (λ l. withEmpty l 1)) ≡ 5
-  -- 5: OE, which document 01 lists between the latches
+  -- 5: OE, as document 01 lists it between the latches
   pub overrun-set : partOf (latched freshOf (λ l. withOverrun l 1)) ≡ 0
   pub overrun-range : partOf (latched freshOf (λ l. withOverrun l 2)) ≡ 5
   -- 5: the time-out latch against FIFO on, and against the receive count
   pub timeout-waits : partOf (latched (fifoOn (received 1)) (λ l. withTimeout l 1)) ≡ 0
   pub timeout-off : partOf (latched (received 1) (λ l. withTimeout l 1)) ≡ 5
   pub timeout-none : partOf (latched (fifoOn freshOf) (λ l. withTimeout l 1)) ≡ 5
-  -- 5: the idle count against the receive count
+  -- 5: the idle count against FIFO on, and against the receive count
   pub idle-waits : partOf (latched (fifoOn (received 1)) (λ l. withIdle l 1)) ≡ 0
+  pub idle-off : partOf (latched (received 1) (λ l. withIdle l 1)) ≡ 5
   pub idle-none : partOf (latched (fifoOn freshOf) (λ l. withIdle l 1)) ≡ 5
   -- 5: the CTS change bit against autoflow, which is on with MCR bit 5 and FIFO on
   pub cts-change : partOf (latched (fifoOn freshOf) (λ l. withChanges l 1)) ≡ 0
   pub cts-autoflow : partOf (latched (flowing freshOf 0x20) (λ l. withChanges l 1)) ≡ 5
-  -- 5: hold against auto-RTS (MCR bits 5 and 1), and against the receive count at the trigger level
+  -- 5: hold against auto-RTS (MCR bits 5 and 1), and against the receive count: at the trigger level, and 0
   pub hold-trigger : partOf (latched (flowing (received 1) 0x22) (λ l. withHold l 1)) ≡ 0
   pub hold-clear : partOf (flowing (received 1) 0x22) ≡ 5
   pub hold-without : partOf (latched (flowing (received 1) 0x20) (λ l. withHold l 1)) ≡ 5
+  pub hold-none : partOf (latched (flowing freshOf 0x22) (λ l. withHold l 1)) ≡ 5

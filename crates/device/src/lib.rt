@@ -243,8 +243,8 @@ pub struct Ran {
     pub state: State,
 }
 
-// What a step answers. The part stands last: before the state it would move it from a multiple of eight
-// bytes, and copies take longer.
+// What a step answers. The part stands last: before the state, it would move it off a multiple of eight
+// bytes, and copies would take longer.
 #[repr(C)]
 pub struct Answer {
     pub number: u8,

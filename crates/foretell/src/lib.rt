@@ -24,6 +24,7 @@ struct Refusal {
     part: u8,
 }
 
+// Why the forecast is refused; number 0 where it is not.
 fn refused(s: State) -> Refusal
     ensures { λ r. ⌜ r .number ≡ forecastNumber s ⌝ }
     ensures { λ r. ⌜ r .part ≡ partOf s ⌝ }
