@@ -33,7 +33,8 @@ above n (true ∷ ts) h =
     omega (arith, k)
 above n (false ∷ ts) h = omega arith
 
--- p tests before the one at the place hold
+-- Where the place is p above the first, the test there fails, and those before it hold.
+
 first-stands : (n p : ℕ) (ts : List Bool) → firstFailing (suc n) ts ≡ suc (n + p) → getD ts p true ≡ false
 first-stands n p [] e = absurd (omega (arith, e))
 first-stands n zero (true ∷ ts) e =
