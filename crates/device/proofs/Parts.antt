@@ -7,7 +7,7 @@ use lib.ListN.{getD}
 use native.Mathlib.Omega.{arith}
 use Rattle.flag.specs.Flag.{every}
 use Rattle.frame.specs.Format.{stopPulses, frameLength}
-use Rattle.queue.specs.Queue.{noBytes, byteRest, noEntries, entryRest, entryFlags}
+use Rattle.queue.specs.Queue.{noBytes, byteRest, noEntries, entryRest, entriesWithin}
 use Rattle.device.specs.declared.State.{State}
 use Rattle.device.specs.State.{freshOf}
 use Rattle.device.specs.Fifo.{capacity, triggerLevel}
@@ -69,13 +69,18 @@ lowest s =
     }
 
 pub joined : Joined
-unfolding stopPulses frameLength noBytes byteRest noEntries entryRest entryFlags freshOf capacity triggerLevel autoflow autoRts partOf
+unfolding stopPulses frameLength noBytes byteRest noEntries entryRest entriesWithin freshOf capacity triggerLevel autoflow autoRts partOf
 joined =
     record {
       transmit-fits = refl;
       transmit-count = refl;
       receive-fits = refl;
       receive-count = refl;
+      entry-on = refl;
+      entry-off = refl;
+      kept-off = refl;
+      kept-range = refl;
+      kept-on = refl;
       empty-alone = refl;
       empty-queued = refl;
       overrun-set = refl;

@@ -2,7 +2,7 @@
 use mathlib.Core.Path.{refl}
 use Rattle.frame.specs.Format.{stopPulses, frameLength, ones, parityBit}
 use Rattle.frame.specs.Forecast.{pulsesLeft, ticksLeft}
-use Rattle.queue.specs.Queue.{isFull, countPut, placesPut, noBytes, putByte, byteRest, noEntries, entryRest, entryFlags, entryErrors}
+use Rattle.queue.specs.Queue.{isFull, countPut, placesPut, noBytes, putByte, byteRest, noEntries, entryRest, entriesWithin, entryErrors}
 use Rattle.device.specs.State.{freshOf}
 use Rattle.device.specs.Fifo.{capacity, triggerLevel}
 use Rattle.device.specs.Modem.{effectiveLevels, changesAfter}
@@ -12,10 +12,10 @@ use Rattle.device.specs.Rbr.{rbrRead}
 use Rattle.device.specs.Thr.{thrWrite}
 use Rattle.device.specs.Ier.{ierWrite}
 use Rattle.device.specs.Iir.{lineStatus, dataAvailable, timeOut, thrEmpty, modemStatus, interruptCode, fifoCode, iirRead}
-use Rattle.device.specs.Fcr.{fifoAfter, switched, clearReceive, clearTransmit, fcrWrite}
+use Rattle.device.specs.Fcr.{fifoAfter, turned, switched, clearReceive, clearTransmit, fcrWrite}
 use Rattle.device.specs.Lcr.{lcrWrite}
 use Rattle.device.specs.Mcr.{mcrWrite}
-use Rattle.device.specs.Lsr.{temt, lsr, clearErrors, lsrRead}
+use Rattle.device.specs.Lsr.{shownErrors, temt, lsr, clearErrors, lsrRead}
 use Rattle.device.specs.Msr.{withLevels, msrRead}
 use Rattle.device.specs.Scr.{scrWrite}
 use Rattle.device.specs.Divisor.{divisorLowWrite, divisorHighWrite}
@@ -24,7 +24,7 @@ use Rattle.device.specs.Forecast.{noClock, heldBack, forecastNumber, for
 use Rattle.device.specs.Rows.{Rows}
 
 pub rows : Rows
-unfolding stopPulses frameLength ones parityBit pulsesLeft ticksLeft isFull countPut placesPut noBytes putByte byteRest noEntries entryRest entryFlags entryErrors freshOf capacity triggerLevel effectiveLevels changesAfter autoflow autoRts held settledChanges settledHold settledLatches settled wellFormed partOf rbrRead thrWrite ierWrite lineStatus dataAvailable timeOut thrEmpty modemStatus interruptCode fifoCode iirRead fifoAfter switched clearReceive clearTransmit fcrWrite lcrWrite mcrWrite temt lsr clearErrors lsrRead withLevels msrRead scrWrite divisorLowWrite divisorHighWrite readRegister writeRegister done readOf writeOf modemOf noClock heldBack forecastNumber forecastOf
+unfolding stopPulses frameLength ones parityBit pulsesLeft ticksLeft isFull countPut placesPut noBytes putByte byteRest noEntries entryRest entriesWithin entryErrors freshOf capacity triggerLevel effectiveLevels changesAfter autoflow autoRts held settledChanges settledHold settledLatches settled wellFormed partOf rbrRead thrWrite ierWrite lineStatus dataAvailable timeOut thrEmpty modemStatus interruptCode fifoCode iirRead fifoAfter turned switched clearReceive clearTransmit fcrWrite lcrWrite mcrWrite shownErrors temt lsr clearErrors lsrRead withLevels msrRead scrWrite divisorLowWrite divisorHighWrite readRegister writeRegister done readOf writeOf modemOf noClock heldBack forecastNumber forecastOf
 rows =
     record {
       row1-lsr = refl;

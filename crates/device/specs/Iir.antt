@@ -4,17 +4,17 @@ use Prim.Native.Nat.{ℕ, _+_}
 use mathlib.Core.Bool.{Bool, cond, _&&_, _||_}
 use lib.Dec.{leb, ltb, eqb}
 use Rattle.flag.specs.Flag.{on, bit}
-use Rattle.queue.specs.Queue.{hasError}
+use Rattle.queue.specs.Queue.{anyError}
 use Rattle.device.specs.declared.FifoControl.{FifoControl}
 use Rattle.device.specs.declared.Reading.{Reading}
 use Rattle.device.specs.declared.State.{State}
 use Rattle.device.specs.State.{withLatches, withEmpty}
 use Rattle.device.specs.Fifo.{triggerLevel}
-use Rattle.device.specs.Rbr.{oldest}
+use Rattle.device.specs.Lsr.{shownErrors}
 
--- receiver line status: IER2 (ELSI) and either OE or an error (PE, FE, BI) of the oldest entry
+-- receiver line status: IER2 (ELSI) and either OE or an error that shows (PE, FE, BI)
 unfoldable pub lineStatus : State → Bool
-lineStatus s = bit 2 (s .registers .ier) && (on (s .latches .overrun) || hasError (oldest (s .rx)))
+lineStatus s = bit 2 (s .registers .ier) && (on (s .latches .overrun) || anyError (shownErrors s))
 
 -- received data available: IER0 (ERBI) and count at or above the trigger, or in character mode data waiting
 unfoldable pub dataAvailable : State → Bool

@@ -3,10 +3,11 @@
 use Prim.Native.Nat.{ℕ, suc, _<_}
 use mathlib.Core.Path.{_≡_}
 use mathlib.Core.Bool.{true, false}
-use lib.ListN.{getD, replicate}
+use lib.ListN.{getD, set, replicate}
+use Rattle.queue.specs.Queue.{noEntry}
 use Rattle.device.specs.declared.Latches.{Latches}
 use Rattle.device.specs.declared.State.{State}
-use Rattle.device.specs.State.{freshOf, withRegisters, withMcr, withFifo, withTx, withRx, withLatches, withEmpty, withOverrun, withTimeout, withIdle, withChanges, withHold}
+use Rattle.device.specs.State.{freshOf, withRegisters, withMcr, withFifo, withTx, withRx, withLatches, withKept, withEmpty, withOverrun, withTimeout, withIdle, withChanges, withHold}
 use Rattle.device.specs.Ranges.{parts, wellFormed, partOf}
 
 -- 0 exactly where the state is well formed; else the part that stands breaks a range, and no part before it does
@@ -22,8 +23,17 @@ queued m = withTx freshOf (record { bytes = replicate 64 0; count = m })
 
 -- with so many zero characters received
 abbrev pub received : ℕ → State
-received n =
-    withRx freshOf (record { entries = replicate 64 (record { byte = 0; pe = 0; fe = 0; bi = 0 }); count = n })
+received n = withRx freshOf (record { entries = replicate 64 noEntry; count = n })
+
+-- with a zero character received whose PE is this
+abbrev pub receivedWith : ℕ → State
+receivedWith pe =
+    withRx freshOf
+    (record { entries = set (replicate 64 noEntry) 0 (record { byte = 0; pe = pe; fe = 0; bi = 0 }); count = 1 })
+
+-- with this kept PE
+abbrev pub keeping : ℕ → State
+keeping pe = withKept freshOf (record { pe = pe; fe = 0; bi = 0 })
 
 -- with other latches
 abbrev pub latched : State → (Latches → Latches) → State
@@ -46,6 +56,12 @@ pub record Joined : Type 0 where
   -- 4: the receive count against the capacity
   pub receive-fits : partOf (received 1) ≡ 0
   pub receive-count : partOf (received 2) ≡ 4
+  -- 4: the errors of an entry and the kept ones against FIFO on
+  pub entry-on : partOf (fifoOn (receivedWith 1)) ≡ 0
+  pub entry-off : partOf (receivedWith 1) ≡ 4
+  pub kept-off : partOf (keeping 1) ≡ 0
+  pub kept-range : partOf (keeping 2) ≡ 4
+  pub kept-on : partOf (fifoOn (keeping 1)) ≡ 4
   -- 5: the transmit-empty latch against the transmit count
   pub empty-alone : partOf (latched freshOf (λ l. withEmpty l 1)) ≡ 0
   pub empty-queued : partOf (latched (queued 1) (λ l. withEmpty l 1)) ≡ 5

@@ -9,7 +9,8 @@ use Rattle.flag.specs.Flag.{on, bit, every, implies}
 use Rattle.frame.specs.Format.{dataBits, parityBits, frameLength}
 use Rattle.queue.specs.declared.ByteQueue.{ByteQueue}
 use Rattle.queue.specs.declared.EntryQueue.{EntryQueue}
-use Rattle.queue.specs.Queue.{byteRest, entryRest, entryFlags}
+use Rattle.queue.specs.declared.Errors.{Errors}
+use Rattle.queue.specs.Queue.{byteRest, entryRest, errorsWithin, entriesWithin}
 use Rattle.device.specs.declared.Registers.{Registers}
 use Rattle.device.specs.declared.Baud.{Baud}
 use Rattle.device.specs.declared.FifoControl.{FifoControl}
@@ -69,12 +70,13 @@ characterRanges v =
 abbrev pub outsideRanges : Receiver → List Bool
 outsideRanges v = eqb (v .format) 0 ∷ eqb (v .position) 0 ∷ eqb (v .samples) 0 ∷ eqb (v .parity) 0 ∷ []
 
--- Part 4: receive queue and receiver.
-abbrev pub receiveRanges : FifoControl → EntryQueue → Receiver → List Bool
-receiveRanges f q v =
+-- Part 4: receive queue, receiver and kept errors (document 02 c).
+abbrev pub receiveRanges : FifoControl → EntryQueue → Receiver → Errors → List Bool
+receiveRanges f q v k =
     leb (q .count) (capacity f)  -- count within the capacity
     ∷ entryRest q  -- places beyond the count are zero
-    ∷ entryFlags q  -- PE, FE, BI 0 or 1
+    ∷ entriesWithin (cond (on (f .enabled)) 1 0) q  -- PE, FE, BI of an entry 0 or 1; 0 with FIFO off
+    ∷ errorsWithin (cond (on (f .enabled)) 0 1) k  -- kept PE, FE, BI 0 or 1; 0 with FIFO on
     ∷ leb (v .phase) characterPhase  -- idle, waiting for mark, or in a character
     ∷ cond (eqb (v .phase) characterPhase) (every (characterRanges v)) (every (outsideRanges v))
     ∷ []
@@ -113,7 +115,7 @@ parts s =
     every (registerRanges (s .registers) (s .baud))
     ∷ every (settingRanges (s .fifo) (s .inputs))
     ∷ every (transmitRanges (s .fifo) (s .tx) (s .frame))
-    ∷ every (receiveRanges (s .fifo) (s .rx) (s .receiver))
+    ∷ every (receiveRanges (s .fifo) (s .rx) (s .receiver) (s .kept))
     ∷ every (latchRanges (s .registers) (s .fifo) (s .tx .count) (s .rx .count) (s .latches))
     ∷ []
 

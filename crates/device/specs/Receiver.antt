@@ -11,10 +11,11 @@ use Rattle.queue.specs.Queue.{noEntry, putEntry, isFull}
 use Rattle.device.specs.declared.Receiver.{Receiver}
 use Rattle.device.specs.declared.Received.{Received}
 use Rattle.device.specs.declared.State.{State}
-use Rattle.device.specs.State.{withRx, withReceiver, withLatches, withOverrun}
+use Rattle.device.specs.State.{withRx, withReceiver, withLatches, withOverrun, withKept}
 use Rattle.device.specs.State.{waitingPhase, characterPhase, idleReceiver}
 use Rattle.device.specs.Fifo.{capacity}
 use Rattle.device.specs.Modem.{loopback}
+use Rattle.device.specs.Lsr.{entering, keptAfter}
 use Rattle.device.specs.Transmitter.{line}
 
 -- the position of the first stop sample, which ends a character: samples fall at 8, 24, 40 and so on
@@ -112,12 +113,13 @@ unfoldable pub enters : State → Bool
 enters s = receiverPulseOf s .ended && not (isFull (capacity (s .fifo)) (s .rx .count))
 
 -- the state with an entry put into the queue. A full queue sets OE; with FIFO on the new character is lost, in
--- character mode it replaces the old
+-- character mode it replaces the old, and its errors are kept apart
 unfoldable pub withEntry : State → Entry → State
 withEntry s e =
     let c = capacity (s .fifo) in
-    withLatches (withRx s (putEntry c (s .rx) e))
-    (withOverrun (s .latches) (cond (isFull c (s .rx .count)) 1 (s .latches .overrun)))
+    let t = withRx s (putEntry c (s .rx) (entering (s .fifo) e)) in
+    let u = withLatches t (withOverrun (s .latches) (cond (isFull c (s .rx .count)) 1 (s .latches .overrun))) in
+    withKept u (keptAfter (s .fifo) e (s .kept))
 
 -- the state with what a pulse made of the receiver, and with the entry of a character that ended
 unfoldable pub withReceived : State → Received → State

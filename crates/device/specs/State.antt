@@ -3,7 +3,8 @@
 use Prim.Native.Nat.{ℕ}
 use Rattle.queue.specs.declared.ByteQueue.{ByteQueue}
 use Rattle.queue.specs.declared.EntryQueue.{EntryQueue}
-use Rattle.queue.specs.Queue.{noBytes, noEntries}
+use Rattle.queue.specs.declared.Errors.{Errors}
+use Rattle.queue.specs.Queue.{noBytes, noEntries, noErrors}
 use Rattle.device.specs.declared.Registers.{Registers}
 use Rattle.device.specs.declared.Baud.{Baud}
 use Rattle.device.specs.declared.FifoControl.{FifoControl}
@@ -14,47 +15,63 @@ use Rattle.device.specs.declared.Latches.{Latches}
 use Rattle.device.specs.declared.State.{State}
 
 -- a state of these parts
-abbrev pub state : Registers → Baud → FifoControl → Inputs → ByteQueue → Frame → EntryQueue → Receiver → Latches → State
-state r b f i t x q v l =
-    record { registers = r; baud = b; fifo = f; inputs = i; tx = t; frame = x; rx = q; receiver = v; latches = l }
+abbrev pub state : Registers → Baud → FifoControl → Inputs → ByteQueue → Frame → EntryQueue → Receiver → Latches
+    → Errors → State
+state r b f i t x q v l e =
+    record {
+      registers = r;
+      baud = b;
+      fifo = f;
+      inputs = i;
+      tx = t;
+      frame = x;
+      rx = q;
+      receiver = v;
+      latches = l;
+      kept = e;
+    }
 
 -- The state with one part put in place of the old.
 
 abbrev pub withRegisters : State → Registers → State
 withRegisters s p =
-    state p (s .baud) (s .fifo) (s .inputs) (s .tx) (s .frame) (s .rx) (s .receiver) (s .latches)
+    state p (s .baud) (s .fifo) (s .inputs) (s .tx) (s .frame) (s .rx) (s .receiver) (s .latches) (s .kept)
 
 abbrev pub withBaud : State → Baud → State
 withBaud s p =
-    state (s .registers) p (s .fifo) (s .inputs) (s .tx) (s .frame) (s .rx) (s .receiver) (s .latches)
+    state (s .registers) p (s .fifo) (s .inputs) (s .tx) (s .frame) (s .rx) (s .receiver) (s .latches) (s .kept)
 
 abbrev pub withFifo : State → FifoControl → State
 withFifo s p =
-    state (s .registers) (s .baud) p (s .inputs) (s .tx) (s .frame) (s .rx) (s .receiver) (s .latches)
+    state (s .registers) (s .baud) p (s .inputs) (s .tx) (s .frame) (s .rx) (s .receiver) (s .latches) (s .kept)
 
 abbrev pub withInputs : State → Inputs → State
 withInputs s p =
-    state (s .registers) (s .baud) (s .fifo) p (s .tx) (s .frame) (s .rx) (s .receiver) (s .latches)
+    state (s .registers) (s .baud) (s .fifo) p (s .tx) (s .frame) (s .rx) (s .receiver) (s .latches) (s .kept)
 
 abbrev pub withTx : State → ByteQueue → State
 withTx s p =
-    state (s .registers) (s .baud) (s .fifo) (s .inputs) p (s .frame) (s .rx) (s .receiver) (s .latches)
+    state (s .registers) (s .baud) (s .fifo) (s .inputs) p (s .frame) (s .rx) (s .receiver) (s .latches) (s .kept)
 
 abbrev pub withFrame : State → Frame → State
 withFrame s p =
-    state (s .registers) (s .baud) (s .fifo) (s .inputs) (s .tx) p (s .rx) (s .receiver) (s .latches)
+    state (s .registers) (s .baud) (s .fifo) (s .inputs) (s .tx) p (s .rx) (s .receiver) (s .latches) (s .kept)
 
 abbrev pub withRx : State → EntryQueue → State
 withRx s p =
-    state (s .registers) (s .baud) (s .fifo) (s .inputs) (s .tx) (s .frame) p (s .receiver) (s .latches)
+    state (s .registers) (s .baud) (s .fifo) (s .inputs) (s .tx) (s .frame) p (s .receiver) (s .latches) (s .kept)
 
 abbrev pub withReceiver : State → Receiver → State
 withReceiver s p =
-    state (s .registers) (s .baud) (s .fifo) (s .inputs) (s .tx) (s .frame) (s .rx) p (s .latches)
+    state (s .registers) (s .baud) (s .fifo) (s .inputs) (s .tx) (s .frame) (s .rx) p (s .latches) (s .kept)
 
 abbrev pub withLatches : State → Latches → State
 withLatches s p =
-    state (s .registers) (s .baud) (s .fifo) (s .inputs) (s .tx) (s .frame) (s .rx) (s .receiver) p
+    state (s .registers) (s .baud) (s .fifo) (s .inputs) (s .tx) (s .frame) (s .rx) (s .receiver) p (s .kept)
+
+abbrev pub withKept : State → Errors → State
+withKept s p =
+    state (s .registers) (s .baud) (s .fifo) (s .inputs) (s .tx) (s .frame) (s .rx) (s .receiver) (s .latches) p
 
 -- The registers with one of them put in place of the old.
 
@@ -141,6 +158,7 @@ freshOf =
       rx = noEntries;
       receiver = idleReceiver;
       latches = noLatches;
+      kept = noErrors;
     }
 
 -- Reset gives the fresh state but keeps SCR, D and both pin inputs, and sets k = D.

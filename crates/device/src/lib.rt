@@ -3,12 +3,14 @@
 //
 // Every field is an unsigned number, so every bit pattern is a state: well formed, or refused.
 pub mod autoflow;
+pub mod errors;
 pub mod fifo;
 pub mod modem;
 pub mod sampling;
 
 use queue::ByteQueue;
 use queue::EntryQueue;
+use queue::Errors;
 ghost use mathlib.Core.Path.{_≡_};
 ghost use Rattle.device.specs.State.{freshOf, resetState, withInputs, withEmpty};
 
@@ -102,6 +104,7 @@ pub fn with_empty(l: Latches, empty: u8) -> Latches
     next
 }
 
+// The whole device. In character mode PE, FE and BI are kept apart from the byte, until LSR is read.
 #[repr(C)]
 pub struct State {
     pub registers: Registers,
@@ -113,6 +116,7 @@ pub struct State {
     pub rx: EntryQueue,
     pub receiver: Receiver,
     pub latches: Latches,
+    pub kept: Errors,
 }
 
 // The fresh state.
@@ -156,6 +160,7 @@ pub fn fresh() -> State
             hold: 0,
             idle: 0,
         },
+        kept: queue::entries::no_errors(),
     }
 }
 

@@ -87,11 +87,14 @@ receiverShape = structOf (byte ∷ byte ∷ byte ∷ byte ∷ word ∷ [])
 abbrev pub latchesShape : Shape
 latchesShape = structOf (byte ∷ byte ∷ byte ∷ byte ∷ byte ∷ word ∷ [])
 
+abbrev pub errorsShape : Shape
+errorsShape = structOf (byte ∷ byte ∷ byte ∷ [])
+
 abbrev pub stateShape : Shape
 stateShape =
     structOf
     (registersShape ∷ baudShape ∷ fifoShape ∷ inputsShape ∷ bytesShape ∷ frameShape ∷ entriesShape ∷ receiverShape
-    ∷ latchesShape ∷ [])
+    ∷ latchesShape ∷ errorsShape ∷ [])
 
 abbrev pub outputsShape : Shape
 outputsShape = structOf (byte ∷ byte ∷ byte ∷ byte ∷ byte ∷ byte ∷ [])
@@ -157,6 +160,7 @@ stateSpecimen =
       rx = record { entries = replicate 64 (record { byte = 18; pe = 19; fe = 20; bi = 21 }); count = fourTimes 22 };
       receiver = record { phase = 23; format = 24; samples = 25; parity = 26; position = fourTimes 27 };
       latches = record { empty = 28; overrun = 29; timeout = 30; changes = 31; hold = 32; idle = fourTimes 33 };
+      kept = record { pe = 34; fe = 35; bi = 36 };
     }
 
 -- The answers: their own fields are numbered from 100, which no field of the state reaches.

@@ -28,6 +28,7 @@ use device::State;
 use queue::ByteQueue;
 use queue::Entry;
 use queue::EntryQueue;
+use queue::Errors;
 ghost use mathlib.Core.Path.{_≡_};
 ghost use Rattle.export.specs.Layout.{sizes, stateSpecimen, answerSpecimen, lookedSpecimen, forecastedSpecimen, leveledSpecimen, ranSpecimen, valuesSpecimen, replayedSpecimen, progressSpecimen};
 
@@ -49,18 +50,18 @@ pub extern "C" fn uart_sizes_of_structs() -> Sizes
     ensures { λ r. ⌜ r ≡ sizes ⌝ }
 {
     Sizes {
-        state: 376,
-        answer: 388,
+        state: 380,
+        answer: 392,
         looked: 8,
         forecasted: 8,
         leveled: 3,
-        ran: 384,
-        replayed: 392,
-        progress: 408,
+        ran: 388,
+        replayed: 400,
+        progress: 416,
     }
 }
 
-// The state: fields 1..33.
+// The state: fields 1..36.
 #[no_mangle]
 pub extern "C" fn uart_specimen_state() -> State
     ensures { λ r. ⌜ r ≡ stateSpecimen ⌝ }
@@ -116,6 +117,11 @@ pub extern "C" fn uart_specimen_state() -> State
             changes: 31,
             hold: 32,
             idle: 0x21212121,
+        },
+        kept: Errors {
+            pe: 34,
+            fe: 35,
+            bi: 36,
         },
     }
 }

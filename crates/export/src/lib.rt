@@ -37,16 +37,16 @@ pub struct Versions {
     pub layout: u32,
 }
 
-// Which library this is: 0.3.0, with the second layout.
+// Which library this is: 0.4.0, with the third layout.
 #[no_mangle]
 pub extern "C" fn uart_version() -> Versions
-    ensures { λ r. ⌜ r ≡ record { major = 0; minor = 3; patch = 0; layout = 2 } ⌝ }
+    ensures { λ r. ⌜ r ≡ record { major = 0; minor = 4; patch = 0; layout = 3 } ⌝ }
 {
     Versions {
         major: 0,
-        minor: 3,
+        minor: 4,
         patch: 0,
-        layout: 2,
+        layout: 3,
     }
 }
 

@@ -3,13 +3,15 @@ use crate::rbr;
 use device::FifoControl;
 use device::Registers;
 use device::State;
+use queue::Errors;
 use sheet::bits;
 ghost use mathlib.Core.Path.{_≡_};
 ghost use mathlib.Core.Bool.{cond, _&&_, _||_};
 ghost use Prim.Native.Nat.{_<_, _/_, _%_};
 ghost use lib.Dec.{eqb};
 ghost use Rattle.flag.specs.Flag.{bit, bitOf};
-ghost use Rattle.device.specs.Fcr.{fifoAfter, switched as «switched-of», clearReceive, clearTransmit, fcrWrite};
+ghost use Rattle.queue.specs.Queue.{noErrors};
+ghost use Rattle.device.specs.Fcr.{fifoAfter, turned as «turned-of», switched as «switched-of», clearReceive, clearTransmit, fcrWrite};
 
 // The size bit after a write, which sets it only with LCR7.
 fn size_after(lcr: u8, size: u8, b: u8) -> u8
@@ -37,14 +39,18 @@ fn fifo_after(r: Registers, f: FifoControl, b: u8) -> FifoControl
     next
 }
 
+// Whether FIFO on/off changes, which clears the kept errors.
+fn turned(f: FifoControl, g: FifoControl) -> bool
+    ensures { λ r. ⌜ r ≡ «turned-of» f g ⌝ }
+{
+    flag::differ(f.enabled == 1, g.enabled == 1)
+}
+
 // Whether FIFO on/off or the size changes, which clears both queues.
 fn switched(f: FifoControl, g: FifoControl) -> bool
     ensures { λ r. ⌜ r ≡ «switched-of» f g ⌝ }
 {
-    flag::either(
-        flag::differ(f.enabled == 1, g.enabled == 1),
-        flag::differ(f.size == 1, g.size == 1),
-    )
+    flag::either(turned(f, g), flag::differ(f.size == 1, g.size == 1))
 }
 
 // Whether a write clears the queue whose bit `clear` is: its bit with FIFO on, or both are cleared.
@@ -88,6 +94,17 @@ fn transmit_after(s: State, clear: bool) -> State
     next
 }
 
+// The kept errors cleared where a test says so.
+fn kept_after(k: Errors, clear: bool) -> Errors
+    ensures { λ r. ⌜ r ≡ cond clear noErrors k ⌝ }
+{
+    if clear {
+        queue::entries::no_errors()
+    } else {
+        k
+    }
+}
+
 // The settings, then what is cleared.
 pub fn write(s: State, b: u8) -> State
     ensures { λ r. ⌜ r ≡ fcrWrite s b ⌝ }
@@ -96,7 +113,9 @@ pub fn write(s: State, b: u8) -> State
     let both = switched(s.fifo, f);
     let receive = clears(both, b, bits::FCR_CLEAR_RCVR);
     let transmit = clears(both, b, bits::FCR_CLEAR_XMIT);
+    let kept = kept_after(s.kept, turned(s.fifo, f));
     let mut next = s;
     next.fifo = f;
+    next.kept = kept;
     transmit_after(receive_after(next, receive), transmit)
 }

@@ -1,17 +1,29 @@
 // LSR, line status register.
 use crate::rbr;
 use device::State;
-use queue::Entry;
+use device::errors;
 use queue::EntryQueue;
+use queue::Errors;
 ghost use mathlib.Core.Path.{_≡_};
 ghost use mathlib.Core.Bool.{false};
-ghost use Rattle.device.specs.Lsr.{lsr as «lsr-of», clearErrors, lsrRead};
+ghost use Rattle.queue.specs.Queue.{noErrors};
+ghost use Rattle.device.specs.Lsr.{shownErrors, lsr as «lsr-of», clearErrors, lsrRead};
+
+// The errors that show: with FIFO on those of the oldest entry, in character mode the kept ones.
+pub fn shown_errors(s: State) -> Errors
+    ensures { λ r. ⌜ r ≡ shownErrors s ⌝ }
+{
+    if s.fifo.enabled == 1 {
+        return queue::entries::errors_of(rbr::oldest(s.rx));
+    }
+    s.kept
+}
 
 // The register, its lower and its upper four bits.
 pub fn value(s: State) -> u8
     ensures { λ r. ⌜ r ≡ «lsr-of» s ⌝ }
 {
-    let e = rbr::oldest(s.rx);
+    let e = shown_errors(s);
     let idle = flag::both(s.tx.count == 0, s.frame.left == 0);
     let error = flag::both(s.fifo.enabled == 1, queue::entries::any_error(s.rx));
     let low = flag::nibble(0 < s.rx.count, s.latches.overrun == 1, e.pe == 1, e.fe == 1);
@@ -23,36 +35,33 @@ pub fn value(s: State) -> u8
 fn clear_errors(q: EntryQueue) -> EntryQueue
     ensures { λ r. ⌜ r ≡ clearErrors q ⌝ }
 {
-    let e = rbr::oldest(q);
-    let clean = Entry {
-        byte: e.byte,
-        pe: 0,
-        fe: 0,
-        bi: 0,
-    };
+    let clean = errors::without_errors(rbr::oldest(q));
     let mut next = q;
     next.entries[0] = clean;
     next
+}
+
+// Whether there are none of these errors.
+fn none_of(e: Errors) -> bool
+    ensures { λ r. ⌜ (r ≡ true → e ≡ noErrors) ⌝ }
+{
+    queue::entries::errors_within(e, 0)
 }
 
 // Whether a read changes the state.
 pub fn read_changes(s: State) -> bool
     ensures { λ r. ⌜ (r ≡ false → lsrRead s .state ≡ s) ⌝ }
 {
-    let e = rbr::oldest(s.rx);
     if s.latches.overrun != 0 {
         return true;
     }
-    if e.pe != 0 {
+    if !none_of(queue::entries::errors_of(rbr::oldest(s.rx))) {
         return true;
     }
-    if e.fe != 0 {
-        return true;
-    }
-    e.bi != 0
+    !none_of(s.kept)
 }
 
-// After a read: OE and the oldest entry's errors are cleared.
+// After a read: OE, the oldest entry's errors and the kept ones are cleared.
 pub fn after_read(s: State) -> State
     ensures { λ r. ⌜ r ≡ lsrRead s .state ⌝ }
 {
@@ -60,5 +69,6 @@ pub fn after_read(s: State) -> State
     let mut next = s;
     next.rx = rx;
     next.latches.overrun = 0;
+    next.kept = queue::entries::no_errors();
     next
 }

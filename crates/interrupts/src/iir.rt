@@ -1,7 +1,7 @@
 // IIR, interrupt identification register.
 use device::FifoControl;
 use device::State;
-use fifos::rbr;
+use fifos::lsr;
 use sheet::bits;
 ghost use mathlib.Core.Path.{_≡_};
 ghost use mathlib.Core.Bool.{cond, false};
@@ -49,7 +49,7 @@ pub fn interrupt_code(s: State) -> u8
 {
     let ier = s.registers.ier;
     let l = s.latches;
-    let error = queue::entries::has_error(rbr::oldest(s.rx));
+    let error = queue::entries::any_set(lsr::shown_errors(s));
     first_of(
         flag::both(
             flag::has(ier, bits::IER_RLSI),

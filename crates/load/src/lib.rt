@@ -15,6 +15,7 @@ use numbers::TRANSMIT;
 use queue::ByteQueue;
 use queue::Entry;
 use queue::EntryQueue;
+use queue::Errors;
 use sheet::limits;
 use sheet::part;
 ghost use mathlib.Core.Path.{_≡_};
@@ -23,7 +24,7 @@ ghost use Prim.Native.Nat.{_%_, _≤_};
 ghost use lib.ListN.{length};
 ghost use lib.Dec.{eqb};
 ghost use Rattle.flag.specs.Flag.{allOf};
-ghost use Rattle.numbers.specs.Numbers.{stateCount, isByte, bytesIn, registersOf, transmitOf, entryOf, entriesOf, receiveOf, frameOf, receiverOf, latchesOf, stateOf};
+ghost use Rattle.numbers.specs.Numbers.{stateCount, isByte, bytesIn, registersOf, transmitOf, entryOf, entriesOf, receiveOf, frameOf, receiverOf, latchesOf, keptOf, stateOf};
 ghost use Rattle.numbers.specs.Numbers.{fits, unfitPart, low as «low-of»};
 
 // Whether every number is a byte.
@@ -67,7 +68,10 @@ pub fn unfit_part(n: &[u32]) -> u8
     if !both(bytes_in(n, 14, 77), bytes_in(n, 79, 80)) {
         return part::TRANSMIT;
     }
-    if !both(bytes_in(n, 82, 338), bytes_in(n, 340, 342)) {
+    if !both(
+        bytes_in(n, 82, 338),
+        both(bytes_in(n, 340, 342), bytes_in(n, 349, 351)),
+    ) {
         return part::RECEIVE;
     }
     if !both(bytes_in(n, 343, 345), bytes_in(n, 347, 348)) {
@@ -155,6 +159,18 @@ fn latches_of(n: &[u32]) -> Latches
     }
 }
 
+// The kept errors.
+fn kept_of(n: &[u32]) -> Errors
+    requires { ⌜ length (now n) ≡ stateCount ⌝ }
+    ensures { λ r. ⌜ r ≡ keptOf (now (n .entry)) ⌝ }
+{
+    Errors {
+        pe: (n[348] % 256) as u8,
+        fe: (n[349] % 256) as u8,
+        bi: (n[350] % 256) as u8,
+    }
+}
+
 // The entry of the first four numbers.
 fn entry_of(n: &[u32]) -> Entry
     requires { ⌜ 4 ≤ length (now n) ⌝ }
@@ -222,5 +238,6 @@ pub fn state_of(n: &[u32]) -> State
         rx: receive_of(n),
         receiver: receiver_of(n),
         latches: latches_of(n),
+        kept: kept_of(n),
     }
 }

@@ -8,6 +8,7 @@ use Rattle.flag.specs.Flag.{every, allOf}
 use Rattle.queue.specs.declared.ByteQueue.{ByteQueue}
 use Rattle.queue.specs.declared.Entry.{Entry}
 use Rattle.queue.specs.declared.EntryQueue.{EntryQueue}
+use Rattle.queue.specs.declared.Errors.{Errors}
 use Rattle.device.specs.declared.Registers.{Registers}
 use Rattle.device.specs.declared.Baud.{Baud}
 use Rattle.device.specs.declared.FifoControl.{FifoControl}
@@ -35,9 +36,9 @@ abbrev pub receiveCount : ℕ
 receiveCount = 4 * 64
 
 abbrev pub receiverCount : ℕ
-receiverCount = 11
+receiverCount = 14
 
--- how many a state has, 348
+-- how many a state has, 351
 abbrev pub stateCount : ℕ
 stateCount = settingsCount + transmitCount + frameCount + receiveCount + receiverCount
 
@@ -63,18 +64,18 @@ entriesNumbers [] = []
 entriesNumbers (e ∷ es) = entryNumbers e ++ entriesNumbers es
 
 -- places 338..342, the receiver's phase, position, format, data samples and parity sample; 343..348, transmit-empty
--- latch, OE, time-out latch, idle count, change bits, RTS hold
-abbrev pub receiverNumbers : Receiver → Latches → List ℕ
-receiverNumbers v l =
+-- latch, OE, time-out latch, idle count, change bits, RTS hold; 349..351, the kept PE, FE and BI
+abbrev pub receiverNumbers : Receiver → Latches → Errors → List ℕ
+receiverNumbers v l k =
     v .phase ∷ v .position ∷ v .format ∷ v .samples ∷ v .parity ∷ l .empty ∷ l .overrun ∷ l .timeout ∷ l .idle
-    ∷ l .changes ∷ l .hold ∷ []
+    ∷ l .changes ∷ l .hold ∷ k .pe ∷ k .fe ∷ k .bi ∷ []
 
 -- all of them: with places 14..77, the transmit queue, and 82..337, the receive queue
 unfoldable pub numbersOf : State → List ℕ
 numbersOf s =
     settingsNumbers (s .registers) (s .baud) (s .fifo) (s .inputs) (s .tx .count)
     ++ (s .tx .bytes
-    ++ (frameNumbers s ++ (entriesNumbers (s .rx .entries) ++ receiverNumbers (s .receiver) (s .latches))))
+    ++ (frameNumbers s ++ (entriesNumbers (s .rx .entries) ++ receiverNumbers (s .receiver) (s .latches) (s .kept))))
 
 -- Numbers that fit.
 
@@ -99,7 +100,7 @@ fitting ns =
     bytesIn 1 4 ns  -- part 1: places 1..6
     ∷ bytesIn 7 12 ns  -- part 2: places 7..12
     ∷ (bytesIn 14 77 ns && bytesIn 79 80 ns)  -- part 3: places 13..80
-    ∷ (bytesIn 82 338 ns && bytesIn 340 342 ns)  -- part 4: places 81..342
+    ∷ (bytesIn 82 338 ns && (bytesIn 340 342 ns && bytesIn 349 351 ns))  -- part 4: places 81..342 and 349..351
     ∷ (bytesIn 343 345 ns && bytesIn 347 348 ns)  -- part 5: places 343..348
     ∷ []
 
@@ -170,6 +171,9 @@ latchesOf ns =
       hold = byteAt 348 ns;
     }
 
+abbrev pub keptOf : List ℕ → Errors
+keptOf ns = record { pe = byteAt 349 ns; fe = byteAt 350 ns; bi = byteAt 351 ns }
+
 unfoldable pub stateOf : List ℕ → State
 stateOf ns =
     record {
@@ -182,4 +186,5 @@ stateOf ns =
       rx = receiveOf ns;
       receiver = receiverOf ns;
       latches = latchesOf ns;
+      kept = keptOf ns;
     }

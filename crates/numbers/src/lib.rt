@@ -1,7 +1,7 @@
 // The numbers of a state, in the protocol's order.
 //
 // A group of numbers stands after another: settings, transmit queue, frame, receive queue, receiver
-// and latches. Places count from 1.
+// with latches and kept errors. Places count from 1.
 use device::Baud;
 use device::FifoControl;
 use device::Inputs;
@@ -10,6 +10,7 @@ use device::Receiver;
 use device::Registers;
 use device::State;
 use queue::Entry;
+use queue::Errors;
 use sheet::limits;
 ghost use mathlib.Core.Path.{_≡_};
 ghost use Prim.Native.Nat.{_+_, _*_, _≤_};
@@ -27,7 +28,7 @@ pub const RECEIVE: usize = FRAME + 4;
 pub const RECEIVER: usize = RECEIVE + 4 * limits::PLACES;
 
 // How many numbers a state has.
-pub const COUNT: usize = RECEIVER + 11;
+pub const COUNT: usize = RECEIVER + 14;
 
 // Puts numbers into out from `at` on.
 pub fn put(numbers: &[u32], out: &mut [u32], at: usize)
@@ -81,9 +82,9 @@ fn frame_numbers(s: State) -> [u32; 4]
     ]
 }
 
-// Places 338..348: the receiver and the latches.
-fn receiver_numbers(v: Receiver, l: Latches) -> [u32; 11]
-    ensures { λ n. ⌜ n ≡ receiverNumbers v l ⌝ }
+// Places 338..351: the receiver, the latches and the kept errors.
+fn receiver_numbers(v: Receiver, l: Latches, k: Errors) -> [u32; 14]
+    ensures { λ n. ⌜ n ≡ receiverNumbers v l k ⌝ }
 {
     [
         v.phase as u32,
@@ -97,6 +98,9 @@ fn receiver_numbers(v: Receiver, l: Latches) -> [u32; 11]
         l.idle,
         l.changes as u32,
         l.hold as u32,
+        k.pe as u32,
+        k.fe as u32,
+        k.bi as u32,
     ]
 }
 
@@ -148,6 +152,6 @@ pub fn put_state(s: State, out: &mut [u32])
     let rx = s.rx;
     let entries = rx.entries;
     put_entries(entries, out, RECEIVE);
-    let receiver = receiver_numbers(s.receiver, s.latches);
+    let receiver = receiver_numbers(s.receiver, s.latches, s.kept);
     put(&receiver, out, RECEIVER);
 }

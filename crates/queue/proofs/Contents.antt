@@ -8,10 +8,10 @@ use lib.Seq.{take-suc-set, take-append-le, drop-set-lt, drop-drop}
 use lib.Dec.{ltb, eqb}
 use native.Mathlib.Numerals.{add-one}
 use native.Mathlib.Omega.{arith}
-use borrow.Author.Tests.{lt-ltb, ltb-true, ltb-false}
+use borrow.Author.Tests.{le-leb, lt-ltb, ltb-true, ltb-false}
 use Rattle.flag.specs.Flag.{allOf}
 use Rattle.flag.proofs.Laws.{tests, by-test, and-left, and-right, and-both}
-use Rattle.queue.specs.Queue.{placesPut, countPut, shifted, contents, noBytes, byteRest, noEntries, entryRest, entryFlags}
+use Rattle.queue.specs.Queue.{placesPut, countPut, shifted, contents, noBytes, byteRest, noEntries, entryRest, entriesWithin}
 
 module _ {A : Type 0} where
   -- a claim about the places after a put, from the claim about a store of v and about the places as they were
@@ -147,7 +147,7 @@ pub no-entries-rest : entryRest noEntries ≡ true
 unfolding noEntries entryRest
 no-entries-rest = refl
 
--- with flags in range
-pub no-entries-flags : entryFlags noEntries ≡ true
-unfolding noEntries entryFlags
-no-entries-flags = refl
+-- with no error
+pub no-entries-within : (n : ℕ) → entriesWithin n noEntries ≡ true
+unfolding noEntries entriesWithin
+no-entries-within n = rw (le-leb 0 n (omega arith))

@@ -9,6 +9,7 @@ use lib.Dec.{ltb, leb, eqb}
 use Rattle.flag.specs.Flag.{on, allOf, anyOf}
 use Rattle.queue.specs.declared.ByteQueue.{ByteQueue}
 use Rattle.queue.specs.declared.Entry.{Entry}
+use Rattle.queue.specs.declared.Errors.{Errors}
 use Rattle.queue.specs.declared.EntryQueue.{EntryQueue}
 
 -- A queue of capacity c whose n first places are in use.
@@ -82,17 +83,33 @@ zeroEntry e = eqb (e .byte) 0 && (eqb (e .pe) 0 && (eqb (e .fe) 0 && eqb (e .bi)
 unfoldable pub entryRest : EntryQueue → Bool
 entryRest q = allOf zeroEntry (drop (q .count) (q .entries))
 
--- PE, FE and BI are each 0 or 1
-abbrev pub flagsInRange : Entry → Bool
-flagsInRange e = leb (e .pe) 1 && (leb (e .fe) 1 && leb (e .bi) 1)
+-- no error
+abbrev pub noErrors : Errors
+noErrors = record { pe = 0; fe = 0; bi = 0 }
+
+-- PE, FE and BI of an entry
+abbrev pub errorsOf : Entry → Errors
+errorsOf e = record { pe = e .pe; fe = e .fe; bi = e .bi }
+
+-- PE, FE and BI are each at most n
+abbrev pub errorsWithin : ℕ → Errors → Bool
+errorsWithin n e = leb (e .pe) n && (leb (e .fe) n && leb (e .bi) n)
+
+-- the entry's are
+abbrev pub entryWithin : ℕ → Entry → Bool
+entryWithin n e = errorsWithin n (errorsOf e)
 
 -- so in every entry
-unfoldable pub entryFlags : EntryQueue → Bool
-entryFlags q = allOf flagsInRange (q .entries)
+unfoldable pub entriesWithin : ℕ → EntryQueue → Bool
+entriesWithin n q = allOf (entryWithin n) (q .entries)
+
+-- PE, FE or BI is set
+abbrev pub anyError : Errors → Bool
+anyError e = on (e .pe) || (on (e .fe) || on (e .bi))
 
 -- the entry has an error
 abbrev pub hasError : Entry → Bool
-hasError e = on (e .pe) || (on (e .fe) || on (e .bi))
+hasError e = anyError (errorsOf e)
 
 -- some entry in the queue has an error
 unfoldable pub entryErrors : EntryQueue → Bool

@@ -1,13 +1,14 @@
 // The queue of received entries.
 use crate::Entry;
 use crate::EntryQueue;
+use crate::Errors;
 use crate::count_after;
 use crate::keeps;
 use crate::next_place;
 use sheet::limits;
 ghost use mathlib.Core.Path.{_≡_};
 ghost use Prim.Native.Nat.{_<_, _≤_, min};
-ghost use Rattle.queue.specs.Queue.{putEntry, takeEntry, noEntries, noEntry, zeroEntry, shifted, entryRest, flagsInRange, entryFlags, hasError, entryErrors};
+ghost use Rattle.queue.specs.Queue.{putEntry, takeEntry, noEntries, noEntry, zeroEntry, shifted, entryRest, noErrors, errorsOf, errorsWithin, entriesWithin, anyError, entryErrors};
 
 // The entry of a place not in use.
 pub fn none() -> Entry
@@ -62,36 +63,58 @@ pub fn rest_is_zero(q: EntryQueue) -> bool
     zero
 }
 
-// Whether the entry's flags are each 0 or 1.
-fn flags_in_range(e: Entry) -> bool
-    ensures { λ r. ⌜ r ≡ flagsInRange e ⌝ }
+// PE, FE and BI of the entry.
+pub fn errors_of(e: Entry) -> Errors
+    ensures { λ r. ⌜ r ≡ errorsOf e ⌝ }
 {
-    if 1 < e.pe {
-        return false;
+    Errors {
+        pe: e.pe,
+        fe: e.fe,
+        bi: e.bi,
     }
-    if 1 < e.fe {
-        return false;
-    }
-    e.bi <= 1
 }
 
-// Whether the flags of every entry are each 0 or 1.
-pub fn flags_are_bits(q: EntryQueue) -> bool
-    ensures { λ r. ⌜ r ≡ entryFlags q ⌝ }
+// No error.
+pub fn no_errors() -> Errors
+    ensures { λ r. ⌜ r ≡ noErrors ⌝ }
 {
-    let mut bits = true;
+    Errors {
+        pe: 0,
+        fe: 0,
+        bi: 0,
+    }
+}
+
+// Whether PE, FE and BI are each at most n.
+pub fn errors_within(e: Errors, n: u8) -> bool
+    ensures { λ r. ⌜ r ≡ errorsWithin n e ⌝ }
+{
+    if n < e.pe {
+        return false;
+    }
+    if n < e.fe {
+        return false;
+    }
+    e.bi <= n
+}
+
+// Whether PE, FE and BI of every entry are each at most n.
+pub fn entries_within(q: EntryQueue, n: u8) -> bool
+    ensures { λ r. ⌜ r ≡ entriesWithin n q ⌝ }
+{
+    let mut within = true;
     let mut i: usize = 0;
     while i < limits::PLACES {
         let e = q.entries[i];
-        bits = flag::both(bits, flags_in_range(e));
+        within = flag::both(within, errors_within(errors_of(e), n));
         i += 1;
     }
-    bits
+    within
 }
 
-// Whether the entry has an error.
-pub fn has_error(e: Entry) -> bool
-    ensures { λ r. ⌜ r ≡ hasError e ⌝ }
+// Whether PE, FE or BI is set.
+pub fn any_set(e: Errors) -> bool
+    ensures { λ r. ⌜ r ≡ anyError e ⌝ }
 {
     if e.pe == 1 {
         return true;
@@ -139,7 +162,7 @@ pub fn any_error(q: EntryQueue) -> bool
     let mut i: usize = 0;
     while i < n {
         let e = q.entries[i];
-        error = flag::either(error, has_error(e));
+        error = flag::either(error, any_set(errors_of(e)));
         i += 1;
     }
     error

@@ -30,6 +30,14 @@ pub struct Entry {
     pub bi: u8,
 }
 
+// PE, FE and BI, each 0 or 1.
+#[repr(C)]
+pub struct Errors {
+    pub pe: u8,
+    pub fe: u8,
+    pub bi: u8,
+}
+
 // The receive queue.
 #[repr(C)]
 pub struct EntryQueue {

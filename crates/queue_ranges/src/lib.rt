@@ -8,6 +8,7 @@ use flag::both;
 use flag::implies;
 use queue::ByteQueue;
 use queue::EntryQueue;
+use queue::Errors;
 use sheet::limits;
 ghost use mathlib.Core.Path.{_≡_};
 ghost use mathlib.Core.Bool.{cond, _&&_};
@@ -100,17 +101,28 @@ fn receiver_in_range(v: Receiver) -> bool
     outside_in_range(v)
 }
 
-// Part 4: receive queue and receiver.
-pub fn receive_in_range(f: FifoControl, q: EntryQueue, v: Receiver) -> bool
-    ensures { λ t. ⌜ t ≡ every (receiveRanges f q v) ⌝ }
+// The highest value of an error flag, which is 0 unless a test holds.
+fn flag_most(possible: bool) -> u8
+    ensures { λ r. ⌜ r ≡ cond possible 1 0 ⌝ }
 {
+    if possible { 1 } else { 0 }
+}
+
+// Part 4: receive queue, receiver and kept errors.
+pub fn receive_in_range(f: FifoControl, q: EntryQueue, v: Receiver, k: Errors) -> bool
+    ensures { λ t. ⌜ t ≡ every (receiveRanges f q v k) ⌝ }
+{
+    let on = f.enabled == 1;
     both(
         q.count <= fifo::capacity(f),
         both(
             queue::entries::rest_is_zero(q),
             both(
-                queue::entries::flags_are_bits(q),
-                both(v.phase <= device::CHARACTER, receiver_in_range(v)),
+                queue::entries::entries_within(q, flag_most(on)),
+                both(
+                    queue::entries::errors_within(k, flag_most(!on)),
+                    both(v.phase <= device::CHARACTER, receiver_in_range(v)),
+                ),
             ),
         ),
     )

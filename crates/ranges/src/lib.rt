@@ -140,6 +140,7 @@ pub fn part_of(s: State) -> u8
     let rx = s.rx;
     let v = s.receiver;
     let l = s.latches;
+    let k = s.kept;
     if !registers_in_range(r, b) {
         return part::REGISTERS;
     }
@@ -149,7 +150,7 @@ pub fn part_of(s: State) -> u8
     if !transmit_in_range(f, tx, x) {
         return part::TRANSMIT;
     }
-    if !receive_in_range(f, rx, v) {
+    if !receive_in_range(f, rx, v, k) {
         return part::RECEIVE;
     }
     if !latches_in_range(r, f, tx.count, rx.count, l) {

@@ -7,6 +7,7 @@ use device::Received;
 use device::Receiver;
 use device::State;
 use device::WAITING;
+use device::errors;
 use device::fifo;
 use device::modem;
 use device::sampling;
@@ -211,14 +212,7 @@ pub fn enters(s: State, ended: bool) -> bool
     flag::both(ended, !full)
 }
 
-// OE after a put.
-fn overrun(full: bool, before: u8) -> u8
-    ensures { λ r. ⌜ r ≡ cond full 1 before ⌝ }
-{
-    if full { 1 } else { before }
-}
-
-// An entry is put into the queue. A full queue sets OE.
+// An entry is put into the queue, in character mode its errors apart. A full queue sets OE.
 fn enter(s: State, e: Entry) -> State
     ensures { λ r. ⌜ r ≡ withEntry s e ⌝ }
 {
@@ -226,11 +220,13 @@ fn enter(s: State, e: Entry) -> State
     let q = s.rx;
     let mut l = s.latches;
     let before = l.overrun;
-    l.overrun = overrun(is_full(f, q.count), before);
-    let rx = queue::entries::put(q, fifo::capacity(f), e);
+    l.overrun = errors::set_if(is_full(f, q.count), before);
+    let rx = queue::entries::put(q, fifo::capacity(f), errors::entering(f, e));
+    let kept = errors::kept_after(f, e, s.kept);
     let mut next = s;
     next.rx = rx;
     next.latches = l;
+    next.kept = kept;
     next
 }
 

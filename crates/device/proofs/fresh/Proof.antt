@@ -10,9 +10,12 @@ clear-requires c κs = search needs
 clear-requires-2 : tie.Need-clear-requires-2
 clear-requires-2 c κs = search needs
 
+no-errors-requires : tie.Need-no-errors-requires
+no-errors-requires c κs = search needs
+
 returns : tie.Need-returns
 unfolding freshOf
-returns c = rw (c .clear2 .ensures, c .before .clear .ensures)
+returns c = rw (c .no-errors .ensures, c .before .clear2 .ensures, c .before .before .clear .ensures)
 
 pub fresh-spec : {M : Type 1} → statement M
-fresh-spec = tie.close (tie.spec clear-requires clear-requires-2 returns)
+fresh-spec = tie.close (tie.spec clear-requires clear-requires-2 no-errors-requires returns)

@@ -20,8 +20,8 @@ loop-holds c = (c .places-in-use .ensures, record { long = search (length-mapped
 
 loop-again : tie.Need-loop-again Inv-loop μ-loop
 loop-again c =
-    let w = c .before .before .before .before .loop .inv in
-    (w .0, rw (c .either .ensures, c .before .has-error .ensures) (find-turns noEntry (w .1) (omega (arith, w .0))))
+    let w = c .before .before .before .before .before .loop .inv in
+    (w .0, rw (c .either .ensures, c .before .any-set .ensures, c .before .before .errors-of .ensures) (find-turns noEntry (w .1) (omega (arith, w .0))))
 
 returns : tie.Need-returns Inv-loop μ-loop
 unfolding entryErrors
@@ -37,6 +37,7 @@ any-error-spec =
     loop-holds
     (λ c. search needs)
     (λ c. search needs)
+    (λ c κs. search needs)
     (λ c κs. search needs)
     (λ c κs. search needs)
     (λ c. search needs)

@@ -1,7 +1,7 @@
 -- The code takes the definition's tests in the definition's order.
 use Rattle.flag.proofs.Laws.{tests}
-use Rattle.queue.proofs.entries.flags_in_range.Statement.{statement}
-use Rattle.queue.proofs.entries.flags_in_range.Tie as tie
+use Rattle.queue.proofs.entries.errors_within.Statement.{statement}
+use Rattle.queue.proofs.entries.errors_within.Tie as tie
 
 returns : tie.Need-returns
 returns c = simp (tests, c .if1 .taken)
@@ -12,5 +12,5 @@ returns-2 c = simp (tests, c .before .before .if1 .left, c .if2 .taken)
 returns-3 : tie.Need-returns-3
 returns-3 c = simp (tests, c .before .before .before .if1 .left, c .before .if2 .left)
 
-pub flags-in-range-spec : {M : Type 1} → statement M
-flags-in-range-spec = tie.close (tie.spec returns returns-2 returns-3)
+pub errors-within-spec : {M : Type 1} → statement M
+errors-within-spec = tie.close (tie.spec returns returns-2 returns-3)
