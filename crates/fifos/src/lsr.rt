@@ -5,7 +5,7 @@ use device::errors;
 use queue::EntryQueue;
 use queue::Errors;
 ghost use mathlib.Core.Path.{_≡_};
-ghost use mathlib.Core.Bool.{false};
+ghost use mathlib.Core.Bool.{true, false};
 ghost use Rattle.queue.specs.Queue.{noErrors};
 ghost use Rattle.device.specs.Lsr.{shownErrors, lsr as «lsr-of», clearErrors, lsrRead};
 

@@ -13,7 +13,8 @@ use Rattle.frame.specs.Format.{dataBits, parityBits, frameLength}
 use Rattle.frame.proofs.Frames.{frame-length-bounds}
 use Rattle.queue.specs.declared.ByteQueue.{ByteQueue}
 use Rattle.queue.specs.declared.EntryQueue.{EntryQueue}
-use Rattle.queue.specs.Queue.{byteRest, entryRest, entryFlags}
+use Rattle.queue.specs.declared.Errors.{Errors}
+use Rattle.queue.specs.Queue.{byteRest, entryRest, errorsWithin, entriesWithin}
 use Rattle.device.specs.declared.Registers.{Registers}
 use Rattle.device.specs.declared.Baud.{Baud}
 use Rattle.device.specs.declared.FifoControl.{FifoControl}
@@ -178,10 +179,21 @@ pub record ReceiverFacts (v : Receiver) : Type 0 where
   pub character : v .phase ≡ 2 → CharacterFacts v
   pub outside : (v .phase ≡ 2 → ⊥) → OutsideFacts v
 
-pub record ReceiveFacts (f : FifoControl) (q : EntryQueue) (v : Receiver) : Type 0 where
+-- the highest value of an error flag, of an entry and of the kept ones
+abbrev pub entryMost : FifoControl → ℕ
+entryMost f = cond (on (f .enabled)) 1 0
+
+abbrev pub keptMost : FifoControl → ℕ
+keptMost f = cond (on (f .enabled)) 0 1
+
+pub record ErrorFacts (f : FifoControl) (q : EntryQueue) (k : Errors) : Type 0 where
+  pub entries : entriesWithin (entryMost f) q ≡ true
+  pub kept : errorsWithin (keptMost f) k ≡ true
+
+pub record ReceiveFacts (f : FifoControl) (q : EntryQueue) (v : Receiver) (k : Errors) : Type 0 where
   pub count-most : q .count ≤ capacity f
   pub rest : entryRest q ≡ true
-  pub flags : entryFlags q ≡ true
+  pub errors : ErrorFacts f q k
   pub receiver : ReceiverFacts v
 
 character-of : (v : Receiver) → every (characterRanges v) ≡ true → CharacterFacts v
@@ -200,27 +212,29 @@ outside-of v w =
 of-outside : (v : Receiver) → OutsideFacts v → every (outsideRanges v) ≡ true
 of-outside v g = of-each (outsideRanges v) (omega (arith, eq-eqb))
 
-pub receive-of : (f : FifoControl) (q : EntryQueue) (v : Receiver) → every (receiveRanges f q v) ≡ true → ReceiveFacts f q v
-receive-of f q v w =
-    let e = each-of (receiveRanges f q v) w in
+pub receive-of : (f : FifoControl) (q : EntryQueue) (v : Receiver) (k : Errors) → every (receiveRanges f q v k) ≡ true → ReceiveFacts f q v k
+receive-of f q v k w =
+    let e = each-of (receiveRanges f q v k) w in
+    let e′ = e .1 .1 .1 .1 in
     record {
       count-most = leb-true (q .count) (capacity f) (e .0);
       rest = e .1 .0;
-      flags = e .1 .1 .0;
+      errors = record { entries = e .1 .1 .0; kept = e .1 .1 .1 .0 };
       receiver =
           record {
-            phase-most = leb-true (v .phase) 2 (e .1 .1 .1 .0);
-            character = λ h. character-of v (picked-yes (eqb (v .phase) 2) _ _ (e .1 .1 .1 .1 .0) (eq-eqb (v .phase) 2 h));
-            outside = λ h. outside-of v (picked-no (eqb (v .phase) 2) _ _ (e .1 .1 .1 .1 .0) (ne-eqb (v .phase) 2 h));
+            phase-most = leb-true (v .phase) 2 (e′ .0);
+            character = λ h. character-of v (picked-yes (eqb (v .phase) 2) _ _ (e′ .1 .0) (eq-eqb (v .phase) 2 h));
+            outside = λ h. outside-of v (picked-no (eqb (v .phase) 2) _ _ (e′ .1 .0) (ne-eqb (v .phase) 2 h));
           };
     }
 
-pub of-receive : (f : FifoControl) (q : EntryQueue) (v : Receiver) → ReceiveFacts f q v → every (receiveRanges f q v) ≡ true
-of-receive f q v g =
+pub of-receive : (f : FifoControl) (q : EntryQueue) (v : Receiver) (k : Errors) → ReceiveFacts f q v k → every (receiveRanges f q v k) ≡ true
+of-receive f q v k g =
     all-hold
     (le-leb (q .count) (capacity f) (g .count-most)
     & g .rest
-    & g .flags
+    & g .errors .entries
+    & g .errors .kept
     & le-leb (v .phase) 2 (g .receiver .phase-most)
     & picked
     & end)
@@ -384,7 +398,7 @@ pub record Good (s : State) : Type 0 where
   pub registers : RegisterFacts (s .registers) (s .baud)
   pub settings : SettingFacts (s .fifo) (s .inputs)
   pub transmit : TransmitFacts (s .fifo) (s .tx) (s .frame)
-  pub receive : ReceiveFacts (s .fifo) (s .rx) (s .receiver)
+  pub receive : ReceiveFacts (s .fifo) (s .rx) (s .receiver) (s .kept)
   pub latches : LatchFacts (s .fifo) (s .tx .count) (s .rx .count) (s .latches)
   pub flow : FlowFacts (s .registers) (s .fifo) (s .rx .count) (s .latches)
 
@@ -396,7 +410,7 @@ good-of s w =
       registers = registers-of _ _ (e .0);
       settings = settings-of _ _ (e .1 .0);
       transmit = transmit-of _ _ _ (e .1 .1 .0);
-      receive = receive-of _ _ _ (e .1 .1 .1 .0);
+      receive = receive-of _ _ _ _ (e .1 .1 .1 .0);
       latches = latches-of (s .registers) _ _ _ _ (e .1 .1 .1 .1 .0);
       flow = flow-of _ _ (s .tx .count) _ _ (e .1 .1 .1 .1 .0);
     }
@@ -408,7 +422,7 @@ of-good s g =
     (of-registers (s .registers) (s .baud) (g .registers)
     & of-settings (s .fifo) (s .inputs) (g .settings)
     & of-transmit (s .fifo) (s .tx) (s .frame) (g .transmit)
-    & of-receive (s .fifo) (s .rx) (s .receiver) (g .receive)
+    & of-receive (s .fifo) (s .rx) (s .receiver) (s .kept) (g .receive)
     & of-latches (s .registers) (s .fifo) (s .tx .count) (s .rx .count) (s .latches) (g .latches) (g .flow)
     & end)
 

@@ -1,34 +1,37 @@
 -- A tick keeps a sound state sound.
 use Prim.Native.Nat.{ℕ, zero, suc, _+_, _-_, _/_, min, _≤_}
 use mathlib.Core.Path.{_≡_, refl, _∙_}
-use mathlib.Core.Bool.{Bool, true, cond, not, _&&_}
-use lib.Dec.{ltb, eqb}
+use mathlib.Core.Bool.{Bool, true, false, cond, not, _&&_}
+use lib.Dec.{leb, ltb, eqb}
 use lib.ListN.{getD, length}
 use lib.Seq.{getD-drop}
 use native.Mathlib.Decide.{decLt}
 use native.Mathlib.Omega.{arith}
 use borrow.Author.Tests.{eqb-true, eqb-false, not-true}
 use Rattle.flag.specs.Flag.{on, bit}
-use Rattle.flag.proofs.Laws.{by-test, and-left, and-right}
+use Rattle.flag.proofs.Laws.{by-test, and-left, and-right, and-both}
 use Rattle.frame.specs.Format.{formatOf, dataBits, parityBits, frameLength, parityBit}
 use Rattle.frame.specs.Frame.{frameLevels, lineLevel}
 use Rattle.frame.proofs.Frames.{frame-length-bounds, level-start, level-data, level-parity, level-stop}
 use Rattle.queue.specs.declared.Entry.{Entry}
-use Rattle.queue.specs.Queue.{countPut, isFull, takeByte, putEntry, flagsInRange}
+use Rattle.queue.specs.declared.Errors.{Errors}
+use Rattle.queue.specs.Queue.{countPut, isFull, takeByte, putEntry, errorsWithin, entryWithin}
 use Rattle.queue.proofs.Contents.{length-put, length-shifted}
+use Rattle.device.specs.declared.FifoControl.{FifoControl}
 use Rattle.device.specs.declared.Frame.{Frame}
 use Rattle.device.specs.declared.State.{State}
 use Rattle.device.specs.State.{withFrame, withTx, withLatches, withEmpty, withTimeout, withIdle, withK}
 use Rattle.device.specs.Fifo.{capacity}
 use Rattle.device.specs.Modem.{loopback}
+use Rattle.device.specs.Lsr.{withoutErrors, entering, keptAfter}
 use Rattle.device.specs.Transmitter.{loaded, ready, shiftedOut, transmitted}
 use Rattle.device.specs.Receiver.{heard, receiverPulseOf, enters, withEntry, withReceived, received}
 use Rattle.device.specs.Idle.{counts, timeOutAt, counted, idled}
 use Rattle.device.specs.Tick.{pulsed, ticked}
 use Rattle.invariant.proofs.Tests.{bit-most}
-use Rattle.invariant.proofs.Good.{FrameFacts, EmptyFacts, LatchFacts, latches-empty, latches-wait, latches-overrun}
+use Rattle.invariant.proofs.Good.{FrameFacts, entryMost, keptMost, EmptyFacts, LatchFacts, latches-empty, latches-wait, latches-overrun}
 use Rattle.invariant.proofs.Settled.{Sound}
-use Rattle.invariant.proofs.Parts.{sound-registers, sound-transmit, sound-receive, sound-frame, sound-receiver, sound-latches, transmit-taken, receive-put, latches-more}
+use Rattle.invariant.proofs.Parts.{sound-registers, sound-transmit, sound-receive, sound-frame, sound-receiver, sound-latches, transmit-taken, receive-put, receive-kept, latches-more}
 use Rattle.invariant.proofs.Reception.{receiver-pulse-facts}
 
 -- The levels of a line are 0 or 1.
@@ -119,12 +122,43 @@ count-more : (c n : ℕ) → n ≤ countPut c n
 unfolding countPut
 count-more c n = by-test (λ (m : ℕ). n ≤ m) (ltb n c) _ _ (λ _. omega arith) (λ _. omega arith)
 
-pub entry-sound : (s : State) (e : Entry) → flagsInRange e ≡ true → Sound s → Sound (withEntry s e)
+-- in character mode an entry has no errors of its own
+entering-within : (f : FifoControl) (e : Entry) → entryWithin 1 e ≡ true → entryWithin (entryMost f) (entering f e) ≡ true
+unfolding entering
+entering-within f e t = go (on (f .enabled))
+  where
+    go : (b : Bool) → entryWithin (cond b 1 0) (cond b e (withoutErrors e)) ≡ true
+    go true = t
+    go false = refl
+
+-- a flag that is set or as it was
+set-most : (b : Bool) (x : ℕ) → leb x 1 ≡ true → leb (cond b 1 x) 1 ≡ true
+set-most true x t = refl
+set-most false x t = t
+
+kept-within : (f : FifoControl) (e : Entry) (k : Errors) → errorsWithin (keptMost f) k ≡ true → errorsWithin (keptMost f) (keptAfter f e k) ≡ true
+unfolding keptAfter
+kept-within f e k = go (on (f .enabled))
+  where
+    after : Errors
+    after = record { pe = cond (on (e .pe)) 1 (k .pe); fe = cond (on (e .fe)) 1 (k .fe); bi = cond (on (e .bi)) 1 (k .bi) }
+
+    go : (b : Bool) → errorsWithin (cond b 0 1) k ≡ true → errorsWithin (cond b 0 1) (cond b k after) ≡ true
+    go true t = t
+    go false t =
+        let t′ = and-right (leb (k .pe) 1) (leb (k .fe) 1 && leb (k .bi) 1) t in
+        and-both (leb (after .pe) 1) (leb (after .fe) 1 && leb (after .bi) 1)
+        (set-most (on (e .pe)) (k .pe) (and-left (leb (k .pe) 1) (leb (k .fe) 1 && leb (k .bi) 1) t))
+        (and-both (leb (after .fe) 1) (leb (after .bi) 1)
+        (set-most (on (e .fe)) (k .fe) (and-left (leb (k .fe) 1) (leb (k .bi) 1) t′))
+        (set-most (on (e .bi)) (k .bi) (and-right (leb (k .fe) 1) (leb (k .bi) 1) t′)))
+
+pub entry-sound : (s : State) (e : Entry) → entryWithin 1 e ≡ true → Sound s → Sound (withEntry s e)
 unfolding withEntry putEntry
 entry-sound s e t w =
-    sound-receive w (putEntry c (s .rx) e) (s .receiver) _
-    (length-put c n (s .rx .entries) e ∙ w .entries-long)
-    (receive-put e t (w .receive))
+    sound-receive w (putEntry c (s .rx) (entering (s .fifo) e)) (s .receiver) _ (keptAfter (s .fifo) e (s .kept))
+    (length-put c n (s .rx .entries) (entering (s .fifo) e) ∙ w .entries-long)
+    (receive-kept (receive-put (w .receive) (entering (s .fifo) e) (entering-within (s .fifo) e t)) (kept-within (s .fifo) e (s .kept) (w .receive .errors .kept)))
     (latches-overrun (latches-more (w .latches) (count-more c n)) overrun)
   where
     c : ℕ

@@ -6,12 +6,14 @@ use mathlib.Core.Bool.{true}
 use native.Mathlib.Nat.{eq-zero-or-pos}
 use mathlib.Core.Logic.{⊎-elim}
 use native.Mathlib.Omega.{arith}
+use borrow.Author.Tests.{le-leb}
 use lib.ListN.{length}
 use Rattle.queue.specs.declared.ByteQueue.{ByteQueue}
 use Rattle.queue.specs.declared.Entry.{Entry}
 use Rattle.queue.specs.declared.EntryQueue.{EntryQueue}
-use Rattle.queue.specs.Queue.{zeroByte, byteRest, noBytes, putByte, takeByte, noEntry, zeroEntry, entryRest, flagsInRange, entryFlags, noEntries, putEntry, takeEntry}
-use Rattle.queue.proofs.Contents.{all-put, rest-put, rest-taken, all-taken, count-put, count-taken, no-bytes-rest, no-entries-rest, no-entries-flags}
+use Rattle.queue.specs.declared.Errors.{Errors}
+use Rattle.queue.specs.Queue.{zeroByte, byteRest, noBytes, putByte, takeByte, noEntry, zeroEntry, entryRest, noErrors, errorsWithin, entryWithin, entriesWithin, noEntries, putEntry, takeEntry}
+use Rattle.queue.proofs.Contents.{all-put, rest-put, rest-taken, all-taken, count-put, count-taken, no-bytes-rest, no-entries-rest, no-entries-within}
 use Rattle.device.specs.declared.Registers.{Registers}
 use Rattle.device.specs.declared.Baud.{Baud}
 use Rattle.device.specs.declared.FifoControl.{FifoControl}
@@ -20,10 +22,10 @@ use Rattle.device.specs.declared.Frame.{Frame}
 use Rattle.device.specs.declared.Receiver.{Receiver}
 use Rattle.device.specs.declared.Latches.{Latches}
 use Rattle.device.specs.declared.State.{State}
-use Rattle.device.specs.State.{withRegisters, withBaud, withFifo, withInputs, withTx, withFrame, withRx, withReceiver, withLatches}
+use Rattle.device.specs.State.{withRegisters, withBaud, withFifo, withInputs, withTx, withFrame, withRx, withReceiver, withLatches, withKept}
 use Rattle.device.specs.Fifo.{capacity}
 use Rattle.device.specs.Rbr.{restartIdle}
-use Rattle.invariant.proofs.Good.{RegisterFacts, SettingFacts, FrameFacts, TransmitFacts, ReceiverFacts, ReceiveFacts, LatchFacts, capacity-bounds, latches-wait}
+use Rattle.invariant.proofs.Good.{RegisterFacts, SettingFacts, FrameFacts, TransmitFacts, ReceiverFacts, ErrorFacts, ReceiveFacts, entryMost, keptMost, LatchFacts, capacity-bounds, latches-wait}
 use Rattle.invariant.proofs.Settled.{Sound}
 
 -- One part's fields put in place of others that keep its ranges; with a queue go the latches that depend on its
@@ -39,15 +41,16 @@ module _ {s : State} (w : Sound s) where
   sound-transmit q x l long g h =
       record { bytes-long = long; entries-long = w .entries-long; registers = w .registers; settings = w .settings; transmit = g; receive = w .receive; latches = h }
 
-  pub sound-receive : (q : EntryQueue) (v : Receiver) (l : Latches) → length (q .entries) ≡ 64 → ReceiveFacts (s .fifo) q v
-      → LatchFacts (s .fifo) (s .tx .count) (q .count) l → Sound (withLatches (withReceiver (withRx s q) v) l)
-  sound-receive q v l long g h =
+  pub sound-receive : (q : EntryQueue) (v : Receiver) (l : Latches) (k : Errors) → length (q .entries) ≡ 64 → ReceiveFacts (s .fifo) q v k
+      → LatchFacts (s .fifo) (s .tx .count) (q .count) l → Sound (withKept (withLatches (withReceiver (withRx s q) v) l) k)
+  sound-receive q v l k long g h =
       record { bytes-long = w .bytes-long; entries-long = long; registers = w .registers; settings = w .settings; transmit = w .transmit; receive = g; latches = h }
 
-  -- the settings, where both queues fit the new capacity, and FIFO stays on while data is waiting
-  pub sound-settings : (g : FifoControl) (i : Inputs) → SettingFacts g i → s .tx .count ≤ capacity g → s .rx .count ≤ capacity g
-      → (0 < s .rx .count → s .fifo .enabled ≡ 1 → g .enabled ≡ 1) → Sound (withInputs (withFifo s g) i)
-  sound-settings g i facts tx rx on =
+  -- the settings, where both queues fit the new capacity, the errors the new mode, and FIFO stays on while data is
+  -- waiting
+  pub sound-settings : (g : FifoControl) (i : Inputs) (k : Errors) → SettingFacts g i → s .tx .count ≤ capacity g → s .rx .count ≤ capacity g
+      → ErrorFacts g (s .rx) k → (0 < s .rx .count → s .fifo .enabled ≡ 1 → g .enabled ≡ 1) → Sound (withKept (withInputs (withFifo s g) i) k)
+  sound-settings g i k facts tx rx errors on =
       let y = w .latches .wait in
       record {
         bytes-long = w .bytes-long;
@@ -55,7 +58,7 @@ module _ {s : State} (w : Sound s) where
         registers = w .registers;
         settings = facts;
         transmit = record { count-most = tx; rest = w .transmit .rest; frame = w .transmit .frame };
-        receive = record { count-most = rx; rest = w .receive .rest; flags = w .receive .flags; receiver = w .receive .receiver };
+        receive = record { count-most = rx; rest = w .receive .rest; errors = errors; receiver = w .receive .receiver };
         latches =
             latches-wait (w .latches)
             (record {
@@ -77,7 +80,8 @@ module _ {s : State} (w : Sound s) where
       (record { ier-most = h .0; mcr-most = h .1; lcr-most = h .2; scr-most = h .3; divisor-most = g .divisor-most; k-most = g .k-most; k-least = g .k-least })
 
   pub sound-inputs : (i : Inputs) → SettingFacts (s .fifo) i → Sound (withInputs s i)
-  sound-inputs i g = sound-settings (s .fifo) i g (w .transmit .count-most) (w .receive .count-most) (λ _ e. e)
+  sound-inputs i g =
+      sound-settings (s .fifo) i (s .kept) g (w .transmit .count-most) (w .receive .count-most) (w .receive .errors) (λ _ e. e)
 
   pub sound-frame : (x : Frame) → FrameFacts x → Sound (withFrame s x)
   sound-frame x g =
@@ -87,8 +91,8 @@ module _ {s : State} (w : Sound s) where
 
   pub sound-receiver : (v : Receiver) → ReceiverFacts v → Sound (withReceiver s v)
   sound-receiver v g =
-      sound-receive (s .rx) v (s .latches) (w .entries-long)
-      (record { count-most = w .receive .count-most; rest = w .receive .rest; flags = w .receive .flags; receiver = g })
+      sound-receive (s .rx) v (s .latches) (s .kept) (w .entries-long)
+      (record { count-most = w .receive .count-most; rest = w .receive .rest; errors = w .receive .errors; receiver = g })
       (w .latches)
 
   pub sound-latches : (l : Latches) → LatchFacts (s .fifo) (s .tx .count) (s .rx .count) l → Sound (withLatches s l)
@@ -120,29 +124,58 @@ transmit-none g = record { count-most = omega arith; rest = no-bytes-rest; frame
 
 -- The receive queue.
 
-pub receive-put : {f : FifoControl} {q : EntryQueue} {v : Receiver} (e : Entry) → flagsInRange e ≡ true → ReceiveFacts f q v → ReceiveFacts f (putEntry (capacity f) q e) v
-unfolding putEntry entryRest entryFlags
-receive-put {f = f} {q = q} e t g =
-    record {
-      count-most = count-put (capacity f) (q .count) (g .count-most);
-      rest = rest-put zeroEntry (capacity f) (q .count) (q .entries) e (g .rest) (capacity-bounds f .0);
-      flags = all-put flagsInRange (capacity f) (q .count) (q .entries) e (g .flags) t;
-      receiver = g .receiver;
-    }
+-- no error is within every limit
+pub none-within : (n : ℕ) → errorsWithin n noErrors ≡ true
+none-within n = rw (le-leb 0 n (omega arith))
 
-pub receive-taken : {f : FifoControl} {q : EntryQueue} {v : Receiver} → ReceiveFacts f q v → ReceiveFacts f (takeEntry q) v
-unfolding takeEntry entryRest entryFlags
-receive-taken {f = f} {q = q} g =
-    record {
-      count-most = count-taken (capacity f) (q .count) (g .count-most);
-      rest = rest-taken zeroEntry noEntry (q .count) (q .entries) refl (g .rest);
-      flags = all-taken flagsInRange noEntry (q .entries) (g .flags) refl;
-      receiver = g .receiver;
-    }
+module _ {f : FifoControl} {q : EntryQueue} {v : Receiver} {k : Errors} (g : ReceiveFacts f q v k) where
+  pub receive-put : (e : Entry) → entryWithin (entryMost f) e ≡ true → ReceiveFacts f (putEntry (capacity f) q e) v k
+  unfolding putEntry entryRest entriesWithin
+  receive-put e t =
+      record {
+        count-most = count-put (capacity f) (q .count) (g .count-most);
+        rest = rest-put zeroEntry (capacity f) (q .count) (q .entries) e (g .rest) (capacity-bounds f .0);
+        errors =
+            record {
+              entries = all-put (entryWithin (entryMost f)) (capacity f) (q .count) (q .entries) e (g .errors .entries) t;
+              kept = g .errors .kept;
+            };
+        receiver = g .receiver;
+      }
 
-pub receive-none : {f : FifoControl} {v : Receiver} → ReceiverFacts v → ReceiveFacts f noEntries v
+  pub receive-taken : ReceiveFacts f (takeEntry q) v k
+  unfolding takeEntry entryRest entriesWithin
+  receive-taken =
+      record {
+        count-most = count-taken (capacity f) (q .count) (g .count-most);
+        rest = rest-taken zeroEntry noEntry (q .count) (q .entries) refl (g .rest);
+        errors =
+            record {
+              entries = all-taken (entryWithin (entryMost f)) noEntry (q .entries) (g .errors .entries) (none-within (entryMost f));
+              kept = g .errors .kept;
+            };
+        receiver = g .receiver;
+      }
+
+  -- with other kept errors
+  pub receive-kept : {k′ : Errors} → errorsWithin (keptMost f) k′ ≡ true → ReceiveFacts f q v k′
+  receive-kept t =
+      record {
+        count-most = g .count-most;
+        rest = g .rest;
+        errors = record { entries = g .errors .entries; kept = t };
+        receiver = g .receiver;
+      }
+
+pub receive-none : {f : FifoControl} {v : Receiver} {k : Errors} → ReceiverFacts v → errorsWithin (keptMost f) k ≡ true → ReceiveFacts f noEntries v k
 unfolding noEntries
-receive-none g = record { count-most = omega arith; rest = no-entries-rest; flags = no-entries-flags; receiver = g }
+receive-none {f = f} g t =
+    record {
+      count-most = omega arith;
+      rest = no-entries-rest;
+      errors = record { entries = no-entries-within (entryMost f); kept = t };
+      receiver = g;
+    }
 
 -- The latches.
 

@@ -8,7 +8,7 @@ use native.Mathlib.Omega.{arith}
 use borrow.Author.Tests.{le-leb, eqb-true, eqb-false, ltb-true, ltb-false}
 use Rattle.flag.proofs.Laws.{by-test, and-both}
 use Rattle.frame.specs.Format.{formatOf, dataBits, parityBits, parityBit}
-use Rattle.queue.specs.Queue.{flagsInRange}
+use Rattle.queue.specs.Queue.{entryWithin}
 use Rattle.device.specs.declared.Receiver.{Receiver}
 use Rattle.device.specs.declared.Received.{Received}
 use Rattle.device.specs.State.{idleReceiver}
@@ -21,7 +21,7 @@ use Rattle.invariant.proofs.Sampling.{none-taken, none-at-start, one-ta
 -- what is to hold of a pulse's outcome: the receiver's ranges, and the flags of the entry
 pub record ReceivedFacts (r : Received) : Type 0 where
   pub receiver : ReceiverFacts (r .receiver)
-  pub flags : flagsInRange (r .entry) ≡ true
+  pub flags : entryWithin 1 (r .entry) ≡ true
 
 goes-on : (v : Receiver) → ReceiverFacts v → ReceivedFacts (goesOn v)
 goes-on v g = record { receiver = g; flags = refl }

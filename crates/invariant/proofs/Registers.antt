@@ -11,8 +11,9 @@ use Rattle.flag.specs.Flag.{on, bit, bitOf, differ, allOf}
 use Rattle.flag.proofs.Laws.{by-test, and-left, and-right, and-both}
 use Rattle.queue.specs.declared.EntryQueue.{EntryQueue}
 use Rattle.queue.specs.declared.Entry.{Entry}
-use Rattle.queue.specs.Queue.{putByte, takeEntry, noBytes, noEntry, noEntries, zeroEntry, entryRest, flagsInRange, entryFlags}
-use Rattle.queue.proofs.Contents.{length-put, length-shifted, all-set, no-bytes-long, no-entries-long}
+use Rattle.queue.specs.declared.Errors.{Errors}
+use Rattle.queue.specs.Queue.{putByte, takeEntry, noBytes, noEntry, noEntries, zeroEntry, entryRest, noErrors, errorsWithin, entryWithin, entriesWithin}
+use Rattle.queue.proofs.Contents.{length-put, length-shifted, all-set, no-bytes-long, no-entries-long, no-entries-within}
 use Rattle.device.specs.declared.Registers.{Registers}
 use Rattle.device.specs.declared.FifoControl.{FifoControl}
 use Rattle.device.specs.declared.Inputs.{Inputs}
@@ -20,25 +21,25 @@ use Rattle.device.specs.declared.Receiver.{Receiver}
 use Rattle.device.specs.declared.Latches.{Latches}
 use Rattle.device.specs.declared.Reading.{Reading}
 use Rattle.device.specs.declared.State.{State}
-use Rattle.device.specs.State.{withFifo, withRx, withLatches, withEmpty, withDivisor}
+use Rattle.device.specs.State.{withFifo, withRx, withLatches, withKept, withEmpty, withDivisor}
 use Rattle.device.specs.Fifo.{capacity}
 use Rattle.device.specs.Modem.{effectiveLevels, changesAfter}
 use Rattle.device.specs.Rbr.{restartIdle, rbrRead}
 use Rattle.device.specs.Thr.{thrWrite}
 use Rattle.device.specs.Ier.{ierWrite}
 use Rattle.device.specs.Iir.{interruptCode, iirRead}
-use Rattle.device.specs.Fcr.{fifoAfter, switched, clearReceive, clearTransmit, fcrWrite}
+use Rattle.device.specs.Fcr.{fifoAfter, turned, switched, clearReceive, clearTransmit, fcrWrite}
 use Rattle.device.specs.Lcr.{divisorAccess, lcrWrite}
 use Rattle.device.specs.Mcr.{mcrWrite}
-use Rattle.device.specs.Lsr.{clearErrors, lsrRead}
+use Rattle.device.specs.Lsr.{withoutErrors, clearErrors, lsrRead}
 use Rattle.device.specs.Msr.{withLevels, msrRead}
 use Rattle.device.specs.Scr.{scrWrite}
 use Rattle.device.specs.Divisor.{divisorLow, divisorHigh, divisorLowWrite, divisorHighWrite}
 use Rattle.device.specs.Calls.{byAddress, readRegister, writeRegister}
 use Rattle.invariant.proofs.Tests.{or-neither, not-differ, bit-most, byte-less}
-use Rattle.invariant.proofs.Good.{SettingFacts, ReceiveFacts, LatchFacts, latches-empty, latches-overrun, latches-changes}
+use Rattle.invariant.proofs.Good.{SettingFacts, ErrorFacts, ReceiveFacts, entryMost, keptMost, LatchFacts, latches-empty, latches-overrun, latches-changes}
 use Rattle.invariant.proofs.Settled.{Sound}
-use Rattle.invariant.proofs.Parts.{sound-registers, sound-written, sound-transmit, sound-receive, sound-settings, sound-latches, transmit-put, transmit-none, receive-taken, receive-none, latches-restarted}
+use Rattle.invariant.proofs.Parts.{sound-registers, sound-written, sound-transmit, sound-receive, sound-settings, sound-latches, transmit-put, transmit-none, none-within, receive-taken, receive-none, latches-restarted}
 
 -- the latches of a sound state
 abbrev Latched : State → Latches → Type 0
@@ -49,7 +50,7 @@ Latched s l = LatchFacts (s .fifo) (s .tx .count) (s .rx .count) l
 taken-sound : (s : State) → Sound s → Sound (withLatches (withRx s (takeEntry (s .rx))) (restartIdle (s .latches)))
 unfolding takeEntry
 taken-sound s w =
-    sound-receive w (takeEntry (s .rx)) (s .receiver) (restartIdle (s .latches))
+    sound-receive w (takeEntry (s .rx)) (s .receiver) (restartIdle (s .latches)) (s .kept)
     (length-shifted noEntry (s .rx .entries) (omega arith) ∙ w .entries-long)
     (receive-taken (w .receive))
     (latches-restarted (w .latches))
@@ -91,7 +92,9 @@ iir-read-sound s w =
 pub clear-receive-sound : (s : State) → Sound s → Sound (clearReceive s)
 unfolding clearReceive
 clear-receive-sound s w =
-    sound-receive w noEntries (s .receiver) (restartIdle (s .latches)) no-entries-long (receive-none (w .receive .receiver)) (latches-restarted (w .latches))
+    sound-receive w noEntries (s .receiver) (restartIdle (s .latches)) (s .kept) no-entries-long
+    (receive-none (w .receive .receiver) (w .receive .errors .kept))
+    (latches-restarted (w .latches))
 
 pub clear-transmit-sound : (s : State) → Sound s → Sound (clearTransmit s)
 unfolding clearTransmit noBytes
@@ -110,18 +113,35 @@ settings-after r f i b h g =
     size : cond (bit 7 (r .lcr)) (bitOf (bit 5 b)) (f .size) ≤ 1
     size = by-test (λ (n : ℕ). n ≤ 1) (bit 7 (r .lcr)) _ _ (λ _. bit-most (bit 5 b)) (λ _. g .size-most)
 
--- where FIFO on/off and size stay, the capacity does
-module _ (f g : FifoControl) (e : switched f g ≡ false) where
-  neither : (differ (on (f .enabled)) (on (g .enabled)) ≡ false) × (differ (on (f .size)) (on (g .size)) ≡ false)
-  unfolding switched
-  neither = or-neither (differ (on (f .enabled)) (on (g .enabled))) (differ (on (f .size)) (on (g .size))) e
-
+-- where FIFO on/off stays, so do the ranges of the errors
+module _ (f g : FifoControl) (e : turned f g ≡ false) where
   on-same : on (f .enabled) ≡ on (g .enabled)
-  on-same = not-differ (on (f .enabled)) (on (g .enabled)) (neither .0)
+  unfolding turned
+  on-same = not-differ (on (f .enabled)) (on (g .enabled)) e
+
+  errors-same : (q : EntryQueue) (k : Errors) → ErrorFacts f q k → ErrorFacts g q k
+  errors-same q k h = record { entries = rw (← on-same) (h .entries); kept = rw (← on-same) (h .kept) }
+
+-- where the size stays too, the capacity does
+module _ (f g : FifoControl) (e : switched f g ≡ false) where
+  neither : (turned f g ≡ false) × (differ (on (f .size)) (on (g .size)) ≡ false)
+  unfolding switched
+  neither = or-neither (turned f g) (differ (on (f .size)) (on (g .size))) e
 
   capacity-same : capacity f ≡ capacity g
   unfolding capacity
-  capacity-same = rw (on-same, not-differ (on (f .size)) (on (g .size)) (neither .1))
+  capacity-same = rw (on-same f g (neither .0), not-differ (on (f .size)) (on (g .size)) (neither .1))
+
+-- the kept errors after a write of FCR
+abbrev keptThen : FifoControl → FifoControl → Errors → Errors
+keptThen f g k = cond (turned f g) noErrors k
+
+-- and their ranges, with no entry queued
+kept-then : (f g : FifoControl) (q : EntryQueue) (k : Errors) → ErrorFacts f q k → errorsWithin (keptMost g) (keptThen f g k) ≡ true
+kept-then f g q k h =
+    by-test (λ (x : Errors). errorsWithin (keptMost g) x ≡ true) (turned f g) _ _
+    (λ _. none-within (keptMost g))
+    (λ e. errors-same f g e q k h .kept)
 
 pub fcr-write-sound : (s : State) (b : ℕ) → b ≤ 255 → Sound s → Sound (fcrWrite s b)
 unfolding fcrWrite clearReceive clearTransmit noBytes noEntries
@@ -130,27 +150,40 @@ fcr-write-sound s b h w = go (switched (s .fifo) g) refl
     g : FifoControl
     g = fifoAfter (s .registers) (s .fifo) b
 
+    k : Errors
+    k = keptThen (s .fifo) g (s .kept)
+
+    set : State
+    set = withKept (withFifo s g) k
+
     facts : SettingFacts g (s .inputs)
     facts = settings-after (s .registers) (s .fifo) (s .inputs) b h (w .settings)
 
+    kept : errorsWithin (keptMost g) k ≡ true
+    kept = kept-then (s .fifo) g (s .rx) (s .kept) (w .receive .errors)
+
     -- the settings where neither FIFO on/off nor the size changes
-    kept : switched (s .fifo) g ≡ false → Sound (withFifo s g)
-    kept e =
-        let same = capacity-same (s .fifo) g e in
-        sound-settings w g (s .inputs) facts (rw (← same) (w .transmit .count-most)) (rw (← same) (w .receive .count-most))
-        (λ _ one. eqb-true (g .enabled) 1 (sym (on-same (s .fifo) g e) ∙ eq-eqb (s .fifo .enabled) 1 one))
+    same : switched (s .fifo) g ≡ false → Sound set
+    same e =
+        let c = capacity-same (s .fifo) g e in
+        let t = neither (s .fifo) g e .0 in
+        sound-settings w g (s .inputs) k facts (rw (← c) (w .transmit .count-most)) (rw (← c) (w .receive .count-most))
+        (record { entries = errors-same (s .fifo) g t (s .rx) (s .kept) (w .receive .errors) .entries; kept = kept })
+        (λ _ one. eqb-true (g .enabled) 1 (sym (on-same (s .fifo) g t) ∙ eq-eqb (s .fifo .enabled) 1 one))
 
     -- the receive queue cleared where bit 1 says so, or both change
     first : Bool → State
-    first both = cond (both || (bit 0 b && bit 1 b)) (clearReceive (withFifo s g)) (withFifo s g)
+    first both = cond (both || (bit 0 b && bit 1 b)) (clearReceive set) set
 
     first-sound : switched (s .fifo) g ≡ false → Sound (first false)
-    first-sound e = by-test Sound (bit 0 b && bit 1 b) _ _ (λ _. clear-receive-sound _ (kept e)) (λ _. kept e)
+    first-sound e = by-test Sound (bit 0 b && bit 1 b) _ _ (λ _. clear-receive-sound _ (same e)) (λ _. same e)
 
     go : (both : Bool) → switched (s .fifo) g ≡ both → Sound (cond (both || (bit 0 b && bit 2 b)) (clearTransmit (first both)) (first both))
     go true e =
         let cleared = clear-transmit-sound (clearReceive s) (clear-receive-sound s w) in
-        sound-settings cleared g (s .inputs) facts (omega arith) (omega arith) (λ n. absurd (omega arith))
+        sound-settings cleared g (s .inputs) k facts (omega arith) (omega arith)
+        (record { entries = no-entries-within (entryMost g); kept = kept })
+        (λ n. absurd (omega arith))
     go false e = by-test Sound (bit 0 b && bit 2 b) _ _ (λ _. clear-transmit-sound _ (first-sound e)) (λ _. first-sound e)
 
 -- LCR, SCR and MCR write.
@@ -191,32 +224,32 @@ mcr-write-sound s b w = levels-sound s _ (sound-written w _ (omega arith))
 
 -- LSR and MSR read.
 
-cleared : List Entry → Entry
-cleared xs = record { byte = getD xs 0 noEntry .byte; pe = 0; fe = 0; bi = 0 }
-
 -- the oldest entry without its errors, where none is queued, is zero still
-rest-cleared : (n : ℕ) (xs : List Entry) → allOf zeroEntry (drop n xs) ≡ true → allOf zeroEntry (drop n (set xs 0 (cleared xs))) ≡ true
-unfolding cleared
+rest-cleared : (n : ℕ) (xs : List Entry) → allOf zeroEntry (drop n xs) ≡ true → allOf zeroEntry (drop n (set xs 0 (withoutErrors (getD xs 0 noEntry)))) ≡ true
 rest-cleared n [] e = e
 rest-cleared zero (x ∷ xs) e =
     let byte = and-left (eqb (x .byte) 0) _ (and-left (zeroEntry x) (allOf zeroEntry xs) e) in
     and-both (eqb (x .byte) 0 && true) (allOf zeroEntry xs) (and-both (eqb (x .byte) 0) true byte refl) (and-right (zeroEntry x) (allOf zeroEntry xs) e)
 rest-cleared (suc n) (x ∷ xs) e = e
 
-errors-cleared : {f : FifoControl} {q : EntryQueue} {v : Receiver} → ReceiveFacts f q v → ReceiveFacts f (clearErrors q) v
-unfolding clearErrors cleared entryRest entryFlags
-errors-cleared {q = q} g =
+errors-cleared : {f : FifoControl} {q : EntryQueue} {v : Receiver} {k : Errors} → ReceiveFacts f q v k → ReceiveFacts f (clearErrors q) v noErrors
+unfolding clearErrors entryRest entriesWithin
+errors-cleared {f = f} {q = q} g =
     record {
       count-most = g .count-most;
       rest = rest-cleared (q .count) (q .entries) (g .rest);
-      flags = all-set flagsInRange (q .entries) 0 (cleared (q .entries)) (g .flags) refl;
+      errors =
+          record {
+            entries = all-set (entryWithin (entryMost f)) (q .entries) 0 (withoutErrors (getD (q .entries) 0 noEntry)) (g .errors .entries) (none-within (entryMost f));
+            kept = none-within (keptMost f);
+          };
       receiver = g .receiver;
     }
 
 pub lsr-read-sound : (s : State) → Sound s → Sound (lsrRead s .state)
 unfolding lsrRead clearErrors
 lsr-read-sound s w =
-    sound-receive w (clearErrors (s .rx)) (s .receiver) _
+    sound-receive w (clearErrors (s .rx)) (s .receiver) _ noErrors
     (length-set (s .rx .entries) 0 _ ∙ w .entries-long)
     (errors-cleared (w .receive))
     (latches-overrun (w .latches) (omega arith))

@@ -23,7 +23,7 @@ pub record Sound (s : State) : Type 0 where
   pub registers : RegisterFacts (s .registers) (s .baud)
   pub settings : SettingFacts (s .fifo) (s .inputs)
   pub transmit : TransmitFacts (s .fifo) (s .tx) (s .frame)
-  pub receive : ReceiveFacts (s .fifo) (s .rx) (s .receiver)
+  pub receive : ReceiveFacts (s .fifo) (s .rx) (s .receiver) (s .kept)
   pub latches : LatchFacts (s .fifo) (s .tx .count) (s .rx .count) (s .latches)
 
 pub sound-of : (s : State) → Places s → Good s → Sound s

@@ -7,7 +7,7 @@ use native.Mathlib.Omega.{arith}
 use borrow.Author.Tests.{leb-true}
 use Rattle.flag.proofs.Laws.{by-test}
 use Rattle.frame.specs.Format.{stopPulses, frameLength}
-use Rattle.queue.specs.Queue.{noBytes, byteRest, noEntries, entryRest, entryFlags}
+use Rattle.queue.specs.Queue.{noBytes, byteRest, noEntries, entryRest, entriesWithin}
 use Rattle.queue.proofs.Contents.{no-bytes-long, no-entries-long}
 use Rattle.device.specs.declared.Answer.{Answer}
 use Rattle.device.specs.declared.State.{State}
@@ -43,12 +43,12 @@ reset-sound s w =
           };
       settings = omega arith;
       transmit = transmit-none (omega arith);
-      receive = receive-none idle-facts;
+      receive = receive-none idle-facts refl;
       latches = omega arith;
     }
 
 pub fresh-kept : Kept freshOf
-unfolding freshOf wellFormed capacity byteRest noBytes frameLength stopPulses entryRest entryFlags noEntries autoflow autoRts triggerLevel
+unfolding freshOf wellFormed capacity byteRest noBytes frameLength stopPulses entryRest entriesWithin noEntries autoflow autoRts triggerLevel
 fresh-kept = record { well = refl; places = record { bytes-long = refl; entries-long = refl } }
 
 -- The calls. A refusal hands the state back.

@@ -1,12 +1,12 @@
 -- Which parts of the state each step touches: one table, and that its rows hold of the definitions.
 use Prim.Native.Nat.{ℕ}
 use mathlib.Core.Path.{_≡_, refl, sym, ap, _∙_}
-use mathlib.Core.Bool.{Bool, true, false, cond, _&&_, true≢false}
+use mathlib.Core.Bool.{Bool, false, _&&_, true≢false}
 use lib.Dec.{eqb}
 use borrow.Author.Tests.{not-false}
 use Rattle.flag.proofs.Laws.{by-test}
 use Rattle.device.specs.declared.State.{State}
-use Rattle.device.specs.State.{withLatches}
+use Rattle.device.specs.State.{withRegisters, withBaud, withTx, withFrame, withRx, withReceiver, withLatches, withKept}
 use Rattle.device.specs.Autoflow.{settled}
 use Rattle.device.specs.Thr.{thrWrite}
 use Rattle.device.specs.Ier.{ierWrite}
@@ -23,62 +23,26 @@ use Rattle.device.specs.Calls.{writeRegister}
 use Rattle.invariant.specs.Touch.{reachesQueue}
 use Rattle.invariant.proofs.Registers.{by-address}
 
--- some of the state's parts
-pub record Parts : Type 0 where
-  pub registers : Bool
-  pub baud : Bool
-  pub fifo : Bool
-  pub inputs : Bool
-  pub tx : Bool
-  pub frame : Bool
-  pub rx : Bool
-  pub receiver : Bool
-  pub latches : Bool
-
--- those of registers, baud, fifo, inputs, tx, frame, rx, receiver, latches that are told so
-abbrev pub parts : Bool → Bool → Bool → Bool → Bool → Bool → Bool → Bool → Bool → Parts
-parts r b f i t x q v l =
-    record { registers = r; baud = b; fifo = f; inputs = i; tx = t; frame = x; rx = q; receiver = v; latches = l }
-
--- The table. The rules that end a step touch the latches, so every row has them.
+-- The table: the state s with those parts of t in place of its own that the step may touch. The rules that end a step
+-- touch the latches, so every row has them.
 
 -- a write that reaches no queue
-abbrev pub byNumbers : Parts
-byNumbers = parts true true false false false false false false true
+abbrev pub byNumbers : State → State → State
+byNumbers s t = withLatches (withBaud (withRegisters s (t .registers)) (t .baud)) (t .latches)
 
 -- a write to THR
-abbrev pub byTransmit : Parts
-byTransmit = parts false false false false true false false false true
+abbrev pub byTransmit : State → State → State
+byTransmit s t = withLatches (withTx s (t .tx)) (t .latches)
 
 -- a pulse
-abbrev pub byPulse : Parts
-byPulse = parts false false false false true true true true true
-
--- the state s with these parts of t in place of its own
-abbrev pub merged : Parts → State → State → State
-merged p s t =
-    record {
-      registers = cond (p .registers) (t .registers) (s .registers);
-      baud = cond (p .baud) (t .baud) (s .baud);
-      fifo = cond (p .fifo) (t .fifo) (s .fifo);
-      inputs = cond (p .inputs) (t .inputs) (s .inputs);
-      tx = cond (p .tx) (t .tx) (s .tx);
-      frame = cond (p .frame) (t .frame) (s .frame);
-      rx = cond (p .rx) (t .rx) (s .rx);
-      receiver = cond (p .receiver) (t .receiver) (s .receiver);
-      latches = cond (p .latches) (t .latches) (s .latches);
-    }
+abbrev pub byPulse : State → State → State
+byPulse s t =
+    let u = withReceiver (withRx (withFrame (withTx s (t .tx)) (t .frame)) (t .rx)) (t .receiver) in
+    withKept (withLatches u (t .latches)) (t .kept)
 
 -- t follows s, and only these parts differ
-abbrev pub Touches : Parts → State → State → Type 0
-Touches p s t = t ≡ merged p s t
-
--- The rules that end a step touch the latches alone.
-pub settled-touches : (p : Parts) → p .latches ≡ true → (s t : State) → Touches p s t → Touches p s (settled t)
-unfolding settled
-settled-touches p on s t e =
-    ap (λ (u : State). withLatches u (settled t .latches)) e
-    ∙ ap (λ (b : Bool). withLatches (merged p s t) (cond b (settled t .latches) (s .latches))) (sym on)
+abbrev pub Touches : (State → State → State) → State → State → Type 0
+Touches row s t = t ≡ row s t
 
 -- A write that reaches no queue.
 
@@ -120,6 +84,12 @@ numbers-touched s a b h =
     refl
     (scr-touches s b)
 
+-- and the rules that end it
+pub numbers-settled : (s : State) (a b : ℕ) → reachesQueue s a ≡ false → Touches byNumbers s (settled (writeRegister s a b))
+unfolding settled
+numbers-settled s a b h =
+    ap (λ (t : State). withLatches t (settled (writeRegister s a b) .latches)) (numbers-touched s a b h)
+
 -- A write to THR.
 pub thr-touches : (s : State) (b : ℕ) → Touches byTransmit s (thrWrite s b)
 unfolding thrWrite
@@ -128,7 +98,7 @@ thr-touches s b = refl
 -- A pulse: its parts one after the other.
 
 then : (s t u : State) → Touches byPulse s t → Touches byPulse t u → Touches byPulse s u
-then s t u e f = f ∙ ap (λ (v : State). merged byPulse v u) e
+then s t u e f = f ∙ ap (λ (v : State). byPulse v u) e
 
 loaded-touches : (s : State) → Touches byPulse s (loaded s)
 unfolding loaded

@@ -101,11 +101,11 @@ fn receiver_in_range(v: Receiver) -> bool
     outside_in_range(v)
 }
 
-// The highest value of an error flag, which is 0 unless a test holds.
-fn flag_most(possible: bool) -> u8
-    ensures { λ r. ⌜ r ≡ cond possible 1 0 ⌝ }
+// One of two numbers: the first with FIFO on, the other in character mode.
+fn by_mode(on: bool, fifo: u8, character: u8) -> u8
+    ensures { λ r. ⌜ r ≡ cond on fifo character ⌝ }
 {
-    if possible { 1 } else { 0 }
+    if on { fifo } else { character }
 }
 
 // Part 4: receive queue, receiver and kept errors.
@@ -118,9 +118,9 @@ pub fn receive_in_range(f: FifoControl, q: EntryQueue, v: Receiver, k: Errors) -
         both(
             queue::entries::rest_is_zero(q),
             both(
-                queue::entries::entries_within(q, flag_most(on)),
+                queue::entries::entries_within(q, by_mode(on, 1, 0)),
                 both(
-                    queue::entries::errors_within(k, flag_most(!on)),
+                    queue::entries::errors_within(k, by_mode(on, 0, 1)),
                     both(v.phase <= device::CHARACTER, receiver_in_range(v)),
                 ),
             ),

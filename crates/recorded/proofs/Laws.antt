@@ -17,11 +17,11 @@ use Rattle.device.specs.Msr.{withLevels}
 use Rattle.device.specs.Calls.{done, readRegister, writeRegister, resetOf, readOf, writeOf, sinOf, modemOf, ticksOf}
 use Rattle.invariant.specs.Touch.{reachesQueue}
 use Rattle.invariant.proofs.Settled.{Kept}
-use Rattle.invariant.proofs.Touched.{byNumbers, byTransmit, merged, Touches, thr-touches}
+use Rattle.invariant.proofs.Touched.{byNumbers, byTransmit, Touches, numbers-settled, thr-touches}
 use Rattle.invariant.proofs.Steps.{reset-kept, read-kept, write-kept, sin-kept, modem-kept, ticks-kept}
 use Rattle.recorded.specs.Record.{Stepped, stepOf}
 use Rattle.recorded.specs.Way.{Way}
-use Rattle.step.proofs.Laws.{settled-thr, numbers-settled}
+use Rattle.step.proofs.Laws.{settled-thr}
 
 -- No field of a record is out of its call's range.
 
@@ -127,12 +127,12 @@ thr-step s w f h =
 pub numbers-step : (s : State) (w : ℕ) → wellFormed s ≡ true → (kind w ≡ 2) × (reachesQueue s (address w) ≡ false) → Touches byNumbers s (stepOf s w .state)
 numbers-step s w f h =
     let step = write-step s w f (h .0) in
-    step ∙ numbers-settled s (address w) (byte w) (h .1) ∙ ap (λ (t : State). merged byNumbers s t) (sym step)
+    step ∙ numbers-settled s (address w) (byte w) (h .1) ∙ ap (byNumbers s) (sym step)
 
 pub transmit-step : (s : State) (w : ℕ) → wellFormed s ≡ true → (kind w ≡ 2) × (address w ≡ 0) × (divisorAccess (s .registers) ≡ false) → Touches byTransmit s (stepOf s w .state)
 transmit-step s w f h =
     let step = thr-step s w f h in
-    step ∙ thr-touches s (byte w) ∙ ap (λ (t : State). merged byTransmit s t) (sym step)
+    step ∙ thr-touches s (byte w) ∙ ap (byTransmit s) (sym step)
 
 -- A record leaves a well-formed state.
 

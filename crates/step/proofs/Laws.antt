@@ -14,7 +14,7 @@ use Rattle.queue.specs.Queue.{putByte}
 use Rattle.invariant.specs.Touch.{reachesQueue, numbersOf}
 use Rattle.invariant.proofs.Good.{good-of}
 use Rattle.invariant.proofs.Settled.{settled-same}
-use Rattle.invariant.proofs.Touched.{byNumbers, Touches, settled-touches, numbers-touched}
+use Rattle.invariant.proofs.Touched.{numbers-touched}
 use Rattle.bus.specs.Readable.{Readable}
 
 -- What a read needs of the state.
@@ -39,9 +39,6 @@ settled-thr s b f =
     ap (λ (t : State). withLatches (withTx s (putByte (capacity (s .fifo)) (s .tx) b)) (withEmpty (t .latches) 0)) (settled-same s (good-of s f))
 
 -- A write that reaches no queue sets numbers alone.
-
-pub numbers-settled : (s : State) (a b : ℕ) → reachesQueue s a ≡ false → Touches byNumbers s (settled (writeRegister s a b))
-numbers-settled s a b e = settled-touches byNumbers refl s (writeRegister s a b) (numbers-touched s a b e)
 
 pub numbers-set : (s : State) (a b : ℕ) → reachesQueue s a ≡ false →
     (let n = numbersOf (writeRegister s a b) in

@@ -10,8 +10,17 @@ capacity-requires c κs = search needs
 rest-is-zero-requires : tie.Need-rest-is-zero-requires
 rest-is-zero-requires c κs = search needs
 
-flags-are-bits-requires : tie.Need-flags-are-bits-requires
-flags-are-bits-requires c κs = search needs
+by-mode-requires : tie.Need-by-mode-requires
+by-mode-requires c κs = search needs
+
+entries-within-requires : tie.Need-entries-within-requires
+entries-within-requires c κs = search needs
+
+by-mode-requires-2 : tie.Need-by-mode-requires-2
+by-mode-requires-2 c κs = search needs
+
+errors-within-requires : tie.Need-errors-within-requires
+errors-within-requires c κs = search needs
 
 receiver-in-range-requires : tie.Need-receiver-in-range-requires
 receiver-in-range-requires c κs = search needs
@@ -28,8 +37,18 @@ both-requires-3 c κs = search needs
 both-requires-4 : tie.Need-both-requires-4
 both-requires-4 c κs = search needs
 
+both-requires-5 : tie.Need-both-requires-5
+both-requires-5 c κs = search needs
+
 returns : tie.Need-returns
-returns c = rw (c .both4 .ensures, c .before .both3 .ensures, c .before .before .both2 .ensures, c .before .before .before .both .ensures, c .before .before .before .before .receiver-in-range .ensures, c .before .before .before .before .before .before .flags-are-bits .ensures, c .before .before .before .before .before .before .before .rest-is-zero .ensures, c .before .before .before .before .before .before .before .before .before .capacity .ensures .0) (simp and-true)
+returns c =
+    let both = c .before .before .before .before in
+    let receiver = both .before in
+    let kept = receiver .before .before in
+    let entries = kept .before .before in
+    let rest = entries .before .before in
+    rw (c .both5 .ensures, c .before .both4 .ensures, c .before .before .both3 .ensures, c .before .before .before .both2 .ensures, both .both .ensures, receiver .receiver-in-range .ensures, kept .errors-within .ensures, kept .before .by-mode2 .ensures, entries .entries-within .ensures, entries .before .by-mode .ensures, rest .rest-is-zero .ensures, rest .before .before .capacity .ensures .0)
+    (simp and-true)
 
 pub receive-in-range-spec : {M : Type 1} → statement M
 receive-in-range-spec =
@@ -37,10 +56,14 @@ receive-in-range-spec =
     (tie.spec
     capacity-requires
     rest-is-zero-requires
-    flags-are-bits-requires
+    by-mode-requires
+    entries-within-requires
+    by-mode-requires-2
+    errors-within-requires
     receiver-in-range-requires
     both-requires
     both-requires-2
     both-requires-3
     both-requires-4
+    both-requires-5
     returns)

@@ -1,5 +1,5 @@
 -- By the queue that the write reaches, or by its numbers.
-use Rattle.step.proofs.Laws.{numbers-settled}
+use Rattle.invariant.proofs.Touched.{numbers-settled}
 use mathlib.Core.Path.{sym, _∙_}
 use borrow.Author.Needs.{needs}
 use Rattle.step.proofs.write.Statement.{statement}

@@ -7,10 +7,13 @@ use Rattle.fifos.proofs.fcr.write.Tie as tie
 returns : tie.Need-returns
 unfolding fcrWrite
 returns c =
-    let clears = c .before .before in
+    let kept = c .before .before in
+    let clears = kept .before .before in
     rw (
       c .transmit-after .ensures,
       c .before .receive-after .ensures,
+      kept .kept-after .ensures,
+      kept .before .turned .ensures,
       clears .clears2 .ensures,
       clears .before .clears .ensures,
       clears .before .before .switched .ensures,
@@ -21,4 +24,4 @@ pub write-spec : {M : Type 1} → statement M
 write-spec =
     tie.close
     (tie.spec (λ c κs. search needs) (λ c κs. search needs) (λ c κs. search needs) (λ c κs. search needs)
-    (λ c κs. search needs) (λ c κs. search needs) returns)
+    (λ c κs. search needs) (λ c κs. search needs) (λ c κs. search needs) (λ c κs. search needs) returns)

@@ -1,4 +1,4 @@
--- The two parts that a read clears.
+-- The parts that a read clears.
 use Rattle.device.specs.Lsr.{lsrRead}
 use borrow.Author.Needs.{needs}
 use Rattle.fifos.proofs.lsr.after_read.Statement.{statement}
@@ -6,7 +6,7 @@ use Rattle.fifos.proofs.lsr.after_read.Tie as tie
 
 returns : tie.Need-returns
 unfolding lsrRead
-returns c = rw (c .before .clear-errors .ensures)
+returns c = rw (c .no-errors .ensures, c .before .before .clear-errors .ensures)
 
 pub after-read-spec : {M : Type 1} → statement M
-after-read-spec = tie.close (tie.spec (λ c κs. search needs) returns)
+after-read-spec = tie.close (tie.spec (λ c κs. search needs) (λ c κs. search needs) returns)

@@ -16,7 +16,7 @@ returns c =
       error .both2 .ensures,
       error .before .any-error .ensures,
       error .before .before .before .both .ensures,
-      error .before .before .before .before .before .before .oldest .ensures,
+      error .before .before .before .before .before .before .shown-errors .ensures,
     ) (omega arith)
 
 pub value-spec : {M : Type 1} → statement M
