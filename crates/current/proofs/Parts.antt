@@ -8,6 +8,7 @@ use Rattle.flag.proofs.Laws.{cond-map}
 use Rattle.text.proofs.Tests.{and-false}
 use Rattle.queue.specs.declared.ByteQueue.{ByteQueue}
 use Rattle.queue.specs.declared.EntryQueue.{EntryQueue}
+use Rattle.queue.specs.declared.Errors.{Errors}
 use Rattle.device.specs.declared.Registers.{Registers}
 use Rattle.device.specs.declared.FifoControl.{FifoControl}
 use Rattle.device.specs.declared.Receiver.{Receiver}
@@ -15,7 +16,7 @@ use Rattle.device.specs.declared.Latches.{Latches}
 use Rattle.device.specs.declared.State.{State}
 use Rattle.device.specs.State.{withOverrun}
 use Rattle.device.specs.Ranges.{settingRanges, transmitRanges, receiveRanges, latchRanges, parts, firstFailing, partOf}
-use Rattle.numbers.specs.Numbers.{bytesIn, fitting, fits, unfitPart, stateOf}
+use Rattle.numbers.specs.Numbers.{registersFit, settingsFit, transmitFits, receiveFits, latchesFit, fitting, fits, unfitPart, stateOf}
 use Rattle.current.specs.declared.Session.{Session}
 use Rattle.current.specs.Current.{outOfPhase, broken, bothOf, loadedOf, loadedPart}
 
@@ -27,8 +28,8 @@ settings-broken f m = simp and-false
 transmit-broken : (f : FifoControl) (q : ByteQueue) (l b : ℕ) → every (transmitRanges f q (record { left = l; byte = b; format = 255 })) ≡ false
 transmit-broken f q l b = simp and-false
 
-receive-broken : (f : FifoControl) (q : EntryQueue) (v : Receiver) → every (receiveRanges f q (outOfPhase v)) ≡ false
-receive-broken f q v = simp and-false
+receive-broken : (f : FifoControl) (q : EntryQueue) (v : Receiver) (k : Errors) → every (receiveRanges f q (outOfPhase v) k) ≡ false
+receive-broken f q v k = simp and-false
 
 latches-broken : (r : Registers) (f : FifoControl) (m n : ℕ) (l : Latches) → every (latchRanges r f m n (withOverrun l 255)) ≡ false
 latches-broken r f m n l = simp and-false
@@ -45,11 +46,11 @@ part-after s true true true true true = refl
 part-after s false b c d e = refl
 part-after s true false c d e = rw (settings-broken (s .fifo) (s .inputs .modem)) refl
 part-after s true true false d e = rw (transmit-broken (s .fifo) (s .tx) (s .frame .left) (s .frame .byte)) refl
-part-after s true true true false e = rw (receive-broken (s .fifo) (s .rx) (s .receiver)) refl
+part-after s true true true false e = rw (receive-broken (s .fifo) (s .rx) (s .receiver) (s .kept)) refl
 part-after s true true true true false = rw (latches-broken (s .registers) (s .fifo) (s .tx .count) (s .rx .count) (s .latches)) refl
 
 pub load-part : (ns : List ℕ) → partOf (loadedOf ns .state) ≡ loadedPart ns
 unfolding loadedOf fits unfitPart loadedPart partOf
 load-part ns =
     ap (λ (s : State). firstFailing 1 (parts s)) (cond-map (λ (t : Session). t .state) (every (fitting ns)) _ _ _ _ refl refl)
-    ∙ part-after (stateOf ns) (bytesIn 1 4 ns) (bytesIn 7 12 ns) (bytesIn 14 77 ns && bytesIn 79 80 ns) (bytesIn 82 338 ns && bytesIn 340 342 ns) (bytesIn 343 345 ns && bytesIn 347 348 ns)
+    ∙ part-after (stateOf ns) (registersFit ns) (settingsFit ns) (transmitFits ns) (receiveFits ns) (latchesFit ns)

@@ -1,7 +1,7 @@
 -- What `load` makes of numbers that fit prints again as those numbers.
 use Prim.Native.Nat.{ℕ, zero, suc, _+_, _-_, _*_, _≤_, _<_}
 use mathlib.Core.Path.{_≡_, refl, sym, ap, ap₂, _∙_}
-use mathlib.Core.Bool.{true}
+use mathlib.Core.Bool.{true, _&&_}
 use mathlib.Core.List.{List, [], _∷_, _++_, map}
 use lib.ListN.{length, getD, take, drop, length-take, length-drop, take-append-drop}
 use lib.Seq.{drop-cons, take-take, drop-drop, take-all, getD-take, getD-drop}
@@ -100,10 +100,14 @@ module _ (ns : List ℕ) (long : length ns ≡ stateCount) (t : fits ns ≡ true
   b79 i h k = byte-there ns 79 80 i (and-right (bytesIn 14 77 ns) (bytesIn 79 80 ns) (tests .1 .1 .0)) (omega arith) (omega arith) h k
 
   b82 : (i : ℕ) → 82 ≤ i → i ≤ 338 → byteAt i ns ≡ place i ns
-  b82 i h k = byte-there ns 82 338 i (and-left (bytesIn 82 338 ns) (bytesIn 340 342 ns) (tests .1 .1 .1 .0)) (omega arith) (omega arith) h k
+  b82 i h k = byte-there ns 82 338 i (and-left (bytesIn 82 338 ns) _ (tests .1 .1 .1 .0)) (omega arith) (omega arith) h k
+
+  -- those of part 4 behind the queue
+  behind : (bytesIn 340 342 ns && bytesIn 349 351 ns) ≡ true
+  behind = and-right (bytesIn 82 338 ns) _ (tests .1 .1 .1 .0)
 
   b340 : (i : ℕ) → 340 ≤ i → i ≤ 342 → byteAt i ns ≡ place i ns
-  b340 i h k = byte-there ns 340 342 i (and-right (bytesIn 82 338 ns) (bytesIn 340 342 ns) (tests .1 .1 .1 .0)) (omega arith) (omega arith) h k
+  b340 i h k = byte-there ns 340 342 i (and-left (bytesIn 340 342 ns) (bytesIn 349 351 ns) behind) (omega arith) (omega arith) h k
 
   b343 : (i : ℕ) → 343 ≤ i → i ≤ 345 → byteAt i ns ≡ place i ns
   b343 i h k = byte-there ns 343 345 i (and-left (bytesIn 343 345 ns) (bytesIn 347 348 ns) (tests .1 .1 .1 .1 .0)) (omega arith) (omega arith) h k
@@ -111,7 +115,10 @@ module _ (ns : List ℕ) (long : length ns ≡ stateCount) (t : fits ns ≡ true
   b347 : (i : ℕ) → 347 ≤ i → i ≤ 348 → byteAt i ns ≡ place i ns
   b347 i h k = byte-there ns 347 348 i (and-right (bytesIn 343 345 ns) (bytesIn 347 348 ns) (tests .1 .1 .1 .1 .0)) (omega arith) (omega arith) h k
 
-  -- The five parts.
+  b349 : (i : ℕ) → 349 ≤ i → i ≤ 351 → byteAt i ns ≡ place i ns
+  b349 i h k = byte-there ns 349 351 i (and-right (bytesIn 340 342 ns) (bytesIn 349 351 ns) behind) (omega arith) (omega arith) h k
+
+  -- The five groups.
 
   settings-back : settingsNumbers (stateOf ns .registers) (stateOf ns .baud) (stateOf ns .fifo) (stateOf ns .inputs) (stateOf ns .tx .count) ≡ take 13 (drop 0 ns)
   unfolding stateOf transmitOf
@@ -132,13 +139,13 @@ module _ (ns : List ℕ) (long : length ns ≡ stateCount) (t : fits ns ≡ true
   unfolding stateOf receiveOf bytesIn
   entries-are =
       let l : length (take 256 (drop 81 ns)) ≡ 4 * 64 = simp (length-take, length-drop) (omega arith) in
-      let a : allOf isByte (take 256 (take 257 (drop 81 ns))) ≡ true = all-take 256 (take 257 (drop 81 ns)) (and-left (bytesIn 82 338 ns) (bytesIn 340 342 ns) (tests .1 .1 .1 .0)) in
+      let a : allOf isByte (take 256 (take 257 (drop 81 ns))) ≡ true = all-take 256 (take 257 (drop 81 ns)) (and-left (bytesIn 82 338 ns) _ (tests .1 .1 .1 .0)) in
       entries-back 64 (take 256 (drop 81 ns)) l (rw (take-take 256 257 (drop 81 ns) (omega arith)) at a)
 
-  receiver-back : receiverNumbers (stateOf ns .receiver) (stateOf ns .latches) ≡ drop 337 ns
+  receiver-back : receiverNumbers (stateOf ns .receiver) (stateOf ns .latches) (stateOf ns .kept) ≡ drop 337 ns
   unfolding stateOf
   receiver-back =
-      rw (b82 338 (omega arith) (omega arith), b340 340 (omega arith) (omega arith), b340 341 (omega arith) (omega arith), b340 342 (omega arith) (omega arith), b343 343 (omega arith) (omega arith), b343 344 (omega arith) (omega arith), b343 345 (omega arith) (omega arith), b347 347 (omega arith) (omega arith), b347 348 (omega arith) (omega arith))
+      rw (b82 338 (omega arith) (omega arith), b340 340 (omega arith) (omega arith), b340 341 (omega arith) (omega arith), b340 342 (omega arith) (omega arith), b343 343 (omega arith) (omega arith), b343 344 (omega arith) (omega arith), b343 345 (omega arith) (omega arith), b347 347 (omega arith) (omega arith), b347 348 (omega arith) (omega arith), b349 349 (omega arith) (omega arith), b349 350 (omega arith) (omega arith), b349 351 (omega arith) (omega arith))
       (each-part receiverCount 337 ns (omega arith) ∙ take-all receiverCount (drop 337 ns) (simp length-drop (omega arith)))
 
   -- the numbers of the state that is made of them

@@ -25,7 +25,7 @@ ghost use lib.ListN.{length};
 ghost use lib.Dec.{eqb};
 ghost use Rattle.flag.specs.Flag.{allOf};
 ghost use Rattle.numbers.specs.Numbers.{stateCount, isByte, bytesIn, registersOf, transmitOf, entryOf, entriesOf, receiveOf, frameOf, receiverOf, latchesOf, keptOf, stateOf};
-ghost use Rattle.numbers.specs.Numbers.{fits, unfitPart, low as «low-of»};
+ghost use Rattle.numbers.specs.Numbers.{registersFit, settingsFit, transmitFits, receiveFits, latchesFit, fits, unfitPart, low as «low-of»};
 
 // Whether every number is a byte.
 fn all_bytes(n: &[u32]) -> bool
@@ -52,6 +52,49 @@ fn bytes_in(n: &[u32], a: usize, b: usize) -> bool
     all_bytes(&n[from..b])
 }
 
+// Whether the numbers of part 1 fit.
+fn registers_fit(n: &[u32]) -> bool
+    requires { ⌜ length (now n) ≡ stateCount ⌝ }
+    ensures { λ r. ⌜ r ≡ registersFit (now (n .entry)) ⌝ }
+{
+    bytes_in(n, 1, 4)
+}
+
+// Whether those of part 2 fit.
+fn settings_fit(n: &[u32]) -> bool
+    requires { ⌜ length (now n) ≡ stateCount ⌝ }
+    ensures { λ r. ⌜ r ≡ settingsFit (now (n .entry)) ⌝ }
+{
+    bytes_in(n, 7, 12)
+}
+
+// Whether those of part 3 fit.
+fn transmit_fits(n: &[u32]) -> bool
+    requires { ⌜ length (now n) ≡ stateCount ⌝ }
+    ensures { λ r. ⌜ r ≡ transmitFits (now (n .entry)) ⌝ }
+{
+    both(bytes_in(n, 14, 77), bytes_in(n, 79, 80))
+}
+
+// Whether those of part 4 fit.
+fn receive_fits(n: &[u32]) -> bool
+    requires { ⌜ length (now n) ≡ stateCount ⌝ }
+    ensures { λ r. ⌜ r ≡ receiveFits (now (n .entry)) ⌝ }
+{
+    both(
+        bytes_in(n, 82, 338),
+        both(bytes_in(n, 340, 342), bytes_in(n, 349, 351)),
+    )
+}
+
+// Whether those of part 5 fit.
+fn latches_fit(n: &[u32]) -> bool
+    requires { ⌜ length (now n) ≡ stateCount ⌝ }
+    ensures { λ r. ⌜ r ≡ latchesFit (now (n .entry)) ⌝ }
+{
+    both(bytes_in(n, 343, 345), bytes_in(n, 347, 348))
+}
+
 // The lowest part of the state with a number that does not fit its place's type; 0 exactly where every
 // number fits.
 pub fn unfit_part(n: &[u32]) -> u8
@@ -59,22 +102,19 @@ pub fn unfit_part(n: &[u32]) -> u8
     ensures lowest { λ r. ⌜ r ≡ unfitPart (now (n .entry)) ⌝ }
     ensures none { λ r. ⌜ fits (now (n .entry)) ≡ eqb r 0 ⌝ }
 {
-    if !bytes_in(n, 1, 4) {
+    if !registers_fit(n) {
         return part::REGISTERS;
     }
-    if !bytes_in(n, 7, 12) {
+    if !settings_fit(n) {
         return part::SETTINGS;
     }
-    if !both(bytes_in(n, 14, 77), bytes_in(n, 79, 80)) {
+    if !transmit_fits(n) {
         return part::TRANSMIT;
     }
-    if !both(
-        bytes_in(n, 82, 338),
-        both(bytes_in(n, 340, 342), bytes_in(n, 349, 351)),
-    ) {
+    if !receive_fits(n) {
         return part::RECEIVE;
     }
-    if !both(bytes_in(n, 343, 345), bytes_in(n, 347, 348)) {
+    if !latches_fit(n) {
         return part::LATCHES;
     }
     part::NONE

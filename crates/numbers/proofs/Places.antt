@@ -71,12 +71,12 @@ pub numbers-put : (s : State) {out a b c d e st fr re : List ℕ}
     → Appended a 13 (s .tx .bytes) b 77
     → fr ≡ frameNumbers s → Appended b 77 fr c (77 + length fr)
     → Appended c 81 (entriesNumbers (s .rx .entries)) d 337
-    → re ≡ receiverNumbers (s .receiver) (s .latches) → Appended d 337 re e (337 + length re)
+    → re ≡ receiverNumbers (s .receiver) (s .latches) (s .kept) → Appended d 337 re e (337 + length re)
     → length e ≡ stateCount → e ≡ numbersOf s
 unfolding numbersOf
 numbers-put s {out} {a} {b} {c} {d} {e} {st} {fr} {re} e1 p1 p2 e3 p3 p4 e5 p5 l =
     let q1 : Appended out 0 (settingsNumbers (s .registers) (s .baud) (s .fifo) (s .inputs) (s .tx .count)) a 13 = rw e1 at p1 in
     let q3 : Appended b 77 (frameNumbers s) c 81 = rw e3 at p3 in
-    let q5 : Appended d 337 (receiverNumbers (s .receiver) (s .latches)) e stateCount = rw e5 at p5 in
+    let q5 : Appended d 337 (receiverNumbers (s .receiver) (s .latches) (s .kept)) e stateCount = rw e5 at p5 in
     let q = appended-then q1 (appended-then p2 (appended-then q3 (appended-then p4 q5))) in
     sym (take-all stateCount e (omega arith)) ∙ q .holds

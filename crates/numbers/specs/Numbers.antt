@@ -93,16 +93,32 @@ isByte n = leb n 255
 unfoldable pub bytesIn : ℕ → ℕ → List ℕ → Bool
 bytesIn a b ns = allOf isByte (places a b ns)
 
--- the five parts of the state in their order: whether the part's numbers fit their places' types. Bytes are all but
--- divisor, k, the counts, L, position and idle count
+-- Whether the numbers of each part fit their places' types. Bytes are all but divisor, k, the counts, L, position and
+-- idle count.
+
+-- part 1: places 1..6
+abbrev pub registersFit : List ℕ → Bool
+registersFit ns = bytesIn 1 4 ns
+
+-- part 2: places 7..12
+abbrev pub settingsFit : List ℕ → Bool
+settingsFit ns = bytesIn 7 12 ns
+
+-- part 3: places 13..80
+abbrev pub transmitFits : List ℕ → Bool
+transmitFits ns = bytesIn 14 77 ns && bytesIn 79 80 ns
+
+-- part 4: places 81..342 and 349..351
+abbrev pub receiveFits : List ℕ → Bool
+receiveFits ns = bytesIn 82 338 ns && (bytesIn 340 342 ns && bytesIn 349 351 ns)
+
+-- part 5: places 343..348
+abbrev pub latchesFit : List ℕ → Bool
+latchesFit ns = bytesIn 343 345 ns && bytesIn 347 348 ns
+
+-- the five parts in their order
 abbrev pub fitting : List ℕ → List Bool
-fitting ns =
-    bytesIn 1 4 ns  -- part 1: places 1..6
-    ∷ bytesIn 7 12 ns  -- part 2: places 7..12
-    ∷ (bytesIn 14 77 ns && bytesIn 79 80 ns)  -- part 3: places 13..80
-    ∷ (bytesIn 82 338 ns && (bytesIn 340 342 ns && bytesIn 349 351 ns))  -- part 4: places 81..342 and 349..351
-    ∷ (bytesIn 343 345 ns && bytesIn 347 348 ns)  -- part 5: places 343..348
-    ∷ []
+fitting ns = registersFit ns ∷ settingsFit ns ∷ transmitFits ns ∷ receiveFits ns ∷ latchesFit ns ∷ []
 
 -- every number fits its place's type
 unfoldable pub fits : List ℕ → Bool

@@ -64,15 +64,19 @@ receiver-of-requires c κs = search needs
 latches-of-requires : tie.Need-latches-of-requires
 latches-of-requires c κs = search needs
 
+kept-of-requires : tie.Need-kept-of-requires
+kept-of-requires c κs = search needs
+
 returns : tie.Need-returns
 unfolding stateOf
 returns c =
-    let receiver = c .before in
+    let latches = c .before in
+    let receiver = latches .before in
     let rx = receiver .before in
     let frame = rx .before in
     let tx = frame .before in
     let registers = tx .before .before .before .before .before .before .before .before .before in
-    rw (c .latches-of .ensures, receiver .receiver-of .ensures, rx .receive-of .ensures, frame .frame-of .ensures, tx .transmit-of .ensures, registers .registers-of .ensures)
+    rw (c .kept-of .ensures, latches .latches-of .ensures, receiver .receiver-of .ensures, rx .receive-of .ensures, frame .frame-of .ensures, tx .transmit-of .ensures, registers .registers-of .ensures)
 
 pub state-of-spec : {M : Type 1} → statement M
 state-of-spec =
@@ -98,4 +102,5 @@ state-of-spec =
     receive-of-requires
     receiver-of-requires
     latches-of-requires
+    kept-of-requires
     returns)

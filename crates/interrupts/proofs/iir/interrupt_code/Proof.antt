@@ -26,8 +26,8 @@ returns c =
         line .both .ensures,
         line .before .either .ensures,
         line .before .before .before .has .ensures,
-        line .before .before .before .before .has-error .ensures,
-        line .before .before .before .before .before .oldest .ensures,
+        line .before .before .before .before .any-set .ensures,
+        line .before .before .before .before .before .shown-errors .ensures,
       ),
       c .first-of .ensures .1,
     )
