@@ -7,7 +7,7 @@ use Rattle.device.specs.declared.Frame.{Frame}
 use Rattle.device.specs.declared.Receiver.{Receiver}
 use Rattle.device.specs.declared.Latches.{Latches}
 use Rattle.device.specs.declared.State.{State}
-use Rattle.device.specs.State.{idlePhase, characterPhase}
+use Rattle.device.specs.State.{withK, withFrame, withReceiver, withLatches, idlePhase, characterPhase}
 use Rattle.device.specs.Modem.{loopback}
 use Rattle.device.specs.Transmitter.{line, ready, shiftedOut}
 use Rattle.device.specs.Receiver.{atPosition, receiverPulse}
@@ -30,18 +30,7 @@ settingOf s =
 
 -- the state with these numbers in place of its own
 abbrev pub assembled : State → ℕ → Frame → Receiver → Latches → State
-assembled s k x v l =
-    record {
-      registers = s .registers;
-      baud = record { divisor = s .baud .divisor; k = k };
-      fifo = s .fifo;
-      inputs = s .inputs;
-      tx = s .tx;
-      frame = x;
-      rx = s .rx;
-      receiver = v;
-      latches = l;
-    }
+assembled s k x v l = withLatches (withReceiver (withFrame (withK s k) x) v) l
 
 -- a pulse that only steps on, with so many pulses left of the frame: between two samples of a character, or idle on a
 -- line that is high because nothing is sent, or because SIN is

@@ -21,7 +21,7 @@ abbrev μ-loop : tie.MeasureT-loop
 μ-loop n divisor t₀ c₀ k₀ x₀ v₀ l₀ i₀ t c k x v l i = n - i
 
 start-kept : (c : tie.Start Inv-loop μ-loop) → Kept (c .args .s)
-start-kept c = record { well = c .pre; places = record { bytes-long = search needs; entries-long = search (length-mapped, needs) } }
+start-kept c = record { well = c .pre; places = record { bytes-long = search needs; entries-long = search (length-mapped, c .good .0 .1 .1 .1 .1 .1 .1 .1 .1 .0, needs) } }
 
 returns : tie.Need-returns Inv-loop μ-loop
 returns c = ticks-stopped (c .before .args .n) _ (start-kept (c .before)) (c .if1 .taken)

@@ -10,7 +10,7 @@ use Rattle.forecast.proofs.level_after.Statement.{statement}
 use Rattle.forecast.proofs.level_after.Tie as tie
 
 kept : (c : tie.Start) → Kept (c .args .s)
-kept c = record { well = forecast-well (c .args .s) (c .pre); places = record { bytes-long = search needs; entries-long = search (length-mapped, needs) } }
+kept c = record { well = forecast-well (c .args .s) (c .pre); places = record { bytes-long = search needs; entries-long = search (length-mapped, c .good .0 .1 .1 .1 .1 .1 .1 .1 .1 .0, needs) } }
 
 pulses-to-come-requires : tie.Need-pulses-to-come-requires
 pulses-to-come-requires c κs = search needs

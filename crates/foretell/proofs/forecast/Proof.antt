@@ -12,7 +12,7 @@ use Rattle.foretell.proofs.forecast.Statement.{statement}
 use Rattle.foretell.proofs.forecast.Tie as tie
 
 kept : (c : tie.Start) → forecastNumber (c .args .s) ≡ 0 → Kept (c .args .s)
-kept c e = record { well = forecast-well (c .args .s) e; places = record { bytes-long = search needs; entries-long = search (length-mapped, needs) } }
+kept c e = record { well = forecast-well (c .args .s) e; places = record { bytes-long = search needs; entries-long = search (length-mapped, c .good .0 .1 .1 .1 .1 .1 .1 .1 .1 .0, needs) } }
 
 refused-requires : tie.Need-refused-requires
 refused-requires c κs = search needs

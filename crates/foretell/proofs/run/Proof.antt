@@ -13,7 +13,7 @@ use Rattle.foretell.proofs.run.Statement.{statement}
 use Rattle.foretell.proofs.run.Tie as tie
 
 kept : (c : tie.Start) → wellFormed (c .args .s) ≡ true → Kept (c .args .s)
-kept c e = record { well = e; places = record { bytes-long = search needs; entries-long = search (length-mapped, needs) } }
+kept c e = record { well = e; places = record { bytes-long = search needs; entries-long = search (length-mapped, c .good .0 .1 .1 .1 .1 .1 .1 .1 .1 .0, needs) } }
 
 part-of-requires : tie.Need-part-of-requires
 part-of-requires c κs = search needs
