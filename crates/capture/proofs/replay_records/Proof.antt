@@ -27,7 +27,7 @@ abbrev μ-loop : tie.MeasureT-loop
 μ-loop records t₀ model₀ i₀ t model i = length records - i
 
 loop-holds : tie.Need-loop-holds Inv-loop μ-loop
-loop-holds c = record { most = omega arith; kept = record { well = c .before .pre; places = record { bytes-long = search needs; entries-long = search (length-mapped, needs) } }; rest = refl }
+loop-holds c = record { most = omega arith; kept = record { well = c .before .pre; places = record { bytes-long = search needs; entries-long = search (length-mapped, c .before .good .0 .1 .1 .1 .1 .1 .1 .1 .1 .0, needs) } }; rest = refl }
 
 good-at-requires : tie.Need-good-at-requires Inv-loop μ-loop
 good-at-requires c κs = search needs
