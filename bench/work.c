@@ -11,7 +11,7 @@
 
 #include DEVICE
 
-#define PLACES 348
+#define PLACES 351
 
 static uint32_t sum;
 

@@ -36,9 +36,9 @@ extern "C" {
 
 /* The version that this header is of; UART_LAYOUT changes where a struct does. */
 #define UART_VERSION_MAJOR 0
-#define UART_VERSION_MINOR 3
+#define UART_VERSION_MINOR 4
 #define UART_VERSION_PATCH 0
-#define UART_LAYOUT 2
+#define UART_LAYOUT 3
 
 /* The numbers answered; where two apply, the lower. */
 #define UART_DONE 0
@@ -58,7 +58,7 @@ extern "C" {
 #define UART_IN_REGISTERS 1   /* registers, baud: registers, divisor or k */
 #define UART_IN_SETTINGS 2    /* fifo, inputs: FIFO settings and pins */
 #define UART_IN_TRANSMITTER 3 /* tx, frame: transmit queue and frame */
-#define UART_IN_RECEIVER 4    /* rx, receiver: receive queue and receiver */
+#define UART_IN_RECEIVER 4    /* rx, receiver, kept: receive queue, receiver and kept errors */
 #define UART_IN_LATCHES 5     /* latches: latches, OE, idle count, change bits and hold */
 
 /* Register addresses. With LCR bit 7 set, 0 and 1 are the divisor's low and high byte. */
@@ -118,7 +118,7 @@ struct uart_frame {
     uint8_t format;
 };
 
-/* A received character with its error flags, each 0 or 1. */
+/* A received character with its error flags, each 0 or 1; with FIFO off they are 0. */
 struct uart_entry {
     uint8_t byte;
     uint8_t pe;
@@ -151,6 +151,16 @@ struct uart_latches {
     uint32_t idle;
 };
 
+/*
+ * The errors of character mode, each 0 or 1: a character that arrives adds its own, a read of RBR leaves
+ * them, a read of LSR clears them. With FIFO on they are 0, and the errors are the entries' own.
+ */
+struct uart_errors {
+    uint8_t pe;
+    uint8_t fe;
+    uint8_t bi;
+};
+
 struct uart_state {
     struct uart_registers registers;
     struct uart_baud baud;
@@ -161,6 +171,7 @@ struct uart_state {
     struct uart_entry_queue rx;
     struct uart_receiver receiver;
     struct uart_latches latches;
+    struct uart_errors kept;
 };
 
 /* The output pins: SOUT and INTRPT 1 is high; the others 1 is asserted. */
@@ -454,11 +465,14 @@ struct uart_progress uart_specimen_progress(void);
     F(latches.timeout, 366, 30)   \
     F(latches.changes, 367, 31)   \
     F(latches.hold, 368, 32)      \
-    F(latches.idle, 372, 33)
+    F(latches.idle, 372, 33)      \
+    F(kept.pe, 376, 34)           \
+    F(kept.fe, 377, 35)           \
+    F(kept.bi, 378, 36)
 
 #define UART_STATE_AT(field, place, number) UART_AT(uart_state, field, place);
 
-UART_STATIC_ASSERT(sizeof(struct uart_state) == 376, "uart_state");
+UART_STATIC_ASSERT(sizeof(struct uart_state) == 380, "uart_state");
 UART_STATE_FIELDS(UART_STATE_AT)
 UART_AT(uart_state, rx.entries, 96);
 
@@ -468,7 +482,7 @@ UART_AT(uart_entry, pe, 1);
 UART_AT(uart_entry, fe, 2);
 UART_AT(uart_entry, bi, 3);
 
-UART_STATIC_ASSERT(sizeof(struct uart_answer) == 388, "uart_answer");
+UART_STATIC_ASSERT(sizeof(struct uart_answer) == 392, "uart_answer");
 UART_AT(uart_answer, number, 0);
 UART_AT(uart_answer, byte, 1);
 UART_AT(uart_answer, outputs.sout, 2);
@@ -478,7 +492,7 @@ UART_AT(uart_answer, outputs.out1, 5);
 UART_AT(uart_answer, outputs.out2, 6);
 UART_AT(uart_answer, outputs.intrpt, 7);
 UART_AT(uart_answer, state, 8);
-UART_AT(uart_answer, part, 384);
+UART_AT(uart_answer, part, 388);
 
 UART_STATIC_ASSERT(sizeof(struct uart_looked) == 8, "uart_looked");
 UART_AT(uart_looked, number, 0);
@@ -495,13 +509,13 @@ UART_AT(uart_leveled, number, 0);
 UART_AT(uart_leveled, part, 1);
 UART_AT(uart_leveled, level, 2);
 
-UART_STATIC_ASSERT(sizeof(struct uart_ran) == 384, "uart_ran");
+UART_STATIC_ASSERT(sizeof(struct uart_ran) == 388, "uart_ran");
 UART_AT(uart_ran, number, 0);
 UART_AT(uart_ran, part, 1);
 UART_AT(uart_ran, used, 4);
 UART_AT(uart_ran, state, 8);
 
-UART_STATIC_ASSERT(sizeof(struct uart_replayed) == 392, "uart_replayed");
+UART_STATIC_ASSERT(sizeof(struct uart_replayed) == 400, "uart_replayed");
 UART_AT(uart_replayed, values.number, 0);
 UART_AT(uart_replayed, values.part, 1);
 UART_AT(uart_replayed, values.seen, 2);
@@ -509,7 +523,7 @@ UART_AT(uart_replayed, values.model, 3);
 UART_AT(uart_replayed, values.place, 8);
 UART_AT(uart_replayed, state, 16);
 
-UART_STATIC_ASSERT(sizeof(struct uart_progress) == 408, "uart_progress");
+UART_STATIC_ASSERT(sizeof(struct uart_progress) == 416, "uart_progress");
 UART_AT(uart_progress, version, 0);
 UART_AT(uart_progress, stopped, 4);
 UART_AT(uart_progress, done, 8);

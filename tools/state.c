@@ -82,6 +82,17 @@ static void tell_forecast(FILE *out, const struct uart_state *state)
                 ticks == 1 ? "" : "s");
 }
 
+/* The errors by name, each behind a mark. */
+static void tell_errors(FILE *out, char mark, uint8_t pe, uint8_t fe, uint8_t bi)
+{
+    if (pe)
+        fprintf(out, "%cPE", mark);
+    if (fe)
+        fprintf(out, "%cFE", mark);
+    if (bi)
+        fprintf(out, "%cBI", mark);
+}
+
 static void tell_receive_queue(FILE *out, const struct uart_entry_queue *queue)
 {
     label(out, "receive queue");
@@ -89,8 +100,8 @@ static void tell_receive_queue(FILE *out, const struct uart_entry_queue *queue)
     for (uint32_t i = 0; i < queue->count && i < MOST_SHOWN; i++) {
         const struct uart_entry *entry = &queue->entries[i];
 
-        fprintf(out, " %02X%s%s%s", (unsigned)entry->byte, entry->pe ? "+PE" : "",
-                entry->fe ? "+FE" : "", entry->bi ? "+BI" : "");
+        fprintf(out, " %02X", (unsigned)entry->byte);
+        tell_errors(out, '+', entry->pe, entry->fe, entry->bi);
     }
     tell_more(out, queue->count);
 }
@@ -118,7 +129,7 @@ static void tell_interrupt(FILE *out, const struct uart_state *state, uint8_t in
 }
 
 /* What is kept for a later interrupt or read, enabled or not. */
-static void tell_latches(FILE *out, const struct uart_latches *latches)
+static void tell_pending(FILE *out, const struct uart_latches *latches, const struct uart_errors *kept)
 {
     label(out, "pending");
     if (latches->empty)
@@ -127,6 +138,11 @@ static void tell_latches(FILE *out, const struct uart_latches *latches)
         fputs("time-out; ", out);
     if (latches->overrun)
         fputs("overrun; ", out);
+    if (kept->pe || kept->fe || kept->bi) {
+        fputs("kept errors:", out);
+        tell_errors(out, ' ', kept->pe, kept->fe, kept->bi);
+        fputs("; ", out);
+    }
     fputs("modem changes: ", out);
     name_modem(out, latches->changes);
     fprintf(out, "; idle count %" PRIu32 "\n", latches->idle);
@@ -196,7 +212,7 @@ void state_tell(FILE *out, const struct uart_state *state)
     tell_receive_queue(out, &state->rx);
     tell_receiver(out, &state->receiver);
     tell_interrupt(out, state, pins.intrpt);
-    tell_latches(out, &state->latches);
+    tell_pending(out, &state->latches, &state->kept);
     tell_outputs(out, &pins, state->latches.hold);
     tell_inputs(out, &state->inputs);
     tell_registers(out, state);

@@ -133,6 +133,10 @@ static void check_parameters(void)
     s.rx.entries[63].bi = 1;
     expect(uart_read(s, UART_LSR).number == UART_MALFORMED, "an entry beyond the count");
 
+    s = uart_fresh();
+    s.kept.fe = 1;
+    expect(uart_read(s, UART_LSR).byte == 0x68, "LSR of a kept error");
+
     /* A refused state comes back as it was. */
     a = uart_write(specimen, UART_SCR, 0);
     expect(a.number == UART_MALFORMED && a.byte == 0, "refusal of the specimen");
@@ -208,6 +212,9 @@ static void check_equal(void)
     b.rx.entries[63].bi = 0;
     b.latches.idle = 1;
     expect(!uart_equal(&a, &b), "the idle count");
+    b.latches.idle = 0;
+    b.kept.bi = 1;
+    expect(!uart_equal(&a, &b), "a kept error");
 }
 
 static void check_version(void)

@@ -44,6 +44,9 @@ static struct uart_state sound(void)
 #define REFUSED(answer) \
     expect((answer).number == UART_MALFORMED && (answer).part == part, #answer, what)
 
+#define ANSWERS(answer, expected) \
+    expect((answer).number == (expected) && (answer).part == 0, #answer, #expected)
+
 /* Every call refuses the state with this part, also where another number applies too. */
 static void refused(struct uart_state s, uint8_t part, const char *what)
 {
@@ -118,6 +121,29 @@ static void check_joined(void)
     refused(s, UART_IN_TRANSMITTER, "two bytes in character mode");
 }
 
+/* With FIFO on errors stand in the entries, with FIFO off beside them, also where none is queued. */
+static void check_errors(void)
+{
+    struct uart_state s = sound();
+
+    BREAK(UART_IN_RECEIVER, kept.pe, 1);
+    BREAK(UART_IN_RECEIVER, kept.fe, 1);
+    BREAK(UART_IN_RECEIVER, kept.bi, 1);
+    s.rx.entries[0].pe = 1;
+    ANSWERS(uart_pins(s), UART_DONE);
+    s = uart_fresh();
+    s.kept.bi = 1;
+    ANSWERS(uart_pins(s), UART_DONE);
+    s.rx.entries[0].byte = 'C';
+    s.rx.count = 1;
+    ANSWERS(uart_pins(s), UART_DONE);
+    s.rx.entries[0].pe = 1;
+    refused(s, UART_IN_RECEIVER, "an entry's flag in character mode");
+    s.rx.entries[0].pe = 0;
+    s.kept.pe = 2;
+    refused(s, UART_IN_RECEIVER, "a kept flag of 2");
+}
+
 /* Of several parts that are bad the lowest stands. */
 static void check_lowest(void)
 {
@@ -134,9 +160,6 @@ static void check_lowest(void)
     s.registers.ier = 64;
     refused(s, UART_IN_REGISTERS, "parts 1 to 5");
 }
-
-#define ANSWERS(answer, expected) \
-    expect((answer).number == (expected) && (answer).part == 0, #answer, #expected)
 
 /* Without a bad part: what is done, and what another number refuses. */
 static void check_other_numbers(void)
@@ -166,6 +189,7 @@ int main(void)
 {
     check_ranges();
     check_joined();
+    check_errors();
     check_lowest();
     check_other_numbers();
     puts(wrong ? "parts: differs" : "parts: ok");

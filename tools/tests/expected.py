@@ -172,9 +172,12 @@ def queue_words(count, items):
     return "%d queued, oldest first: %s%s" % (count, " ".join(items[:min(count, SHOWN)]), more)
 
 
+def errors(flags):
+    return [name for name, flag in zip(("PE", "FE", "BI"), flags) if flag]
+
+
 def entry(numbers):
-    return "%02X" % numbers[0] + "".join("+" + n for n in set_bits(("PE", "FE", "BI"), sum(
-        flag << bit for bit, flag in enumerate(numbers[1:]))))
+    return "+".join(["%02X" % numbers[0], *errors(numbers[1:])])
 
 
 def plural(count, what):
@@ -204,6 +207,9 @@ def state(words):
     sizes = ((16, (1, 4, 8, 14)), (64, (1, 16, 32, 56)))[at(8)]
     pending = [name for name, place in (("THR empty; ", 343), ("time-out; ", 345), ("overrun; ", 344))
                if at(place)]
+    kept = errors(numbers[348:351])
+    if kept:
+        pending.append("kept errors: %s; " % " ".join(kept))
     outputs = [name for name, level in zip(("RTS", "DTR", "OUT1", "OUT2"), pins[2:6]) if level]
     rows = [
         ("FIFO", "on, %d bytes, trigger %d" % (sizes[0], sizes[1][at(10)]) if at(7) else "off (character mode)"),

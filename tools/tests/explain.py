@@ -118,6 +118,15 @@ def break_heard():
     return utr.capture(words)
 
 
+def errors_kept():
+    """A character of bad parity and a break in character mode, RBR read and LSR not."""
+    words = [utr.record(utr.WRITE, expected.LCR, 0x80), utr.record(utr.WRITE, 0, 1),
+             utr.record(utr.WRITE, expected.LCR, 0x1B)]
+    for level in "0" "10000010" "1" "1" "0" "00000000" "0" "0" "1":
+        words += [utr.record(utr.SIN, int(level)), utr.record(utr.TICKS, 16)]
+    return utr.capture(words + [utr.record(utr.READ, 0, 0)])
+
+
 def cut(data):
     """A capture up to some places between its records."""
     words = utr.unpack(data)
@@ -138,11 +147,15 @@ def cases():
             yield name, file.read(), numbers
     yield "every byte", every_byte(), numbers
     yield "break heard", break_heard(), numbers
+    yield "errors kept", errors_kept(), numbers
+    for part in cut(errors_kept()):
+        yield "a part of errors kept", part, (CONTEXT,)
 
 
 # What has to be met among the states and answers, for the cases to be worth something.
 MET = ("agreed", "differs", "refused", "1.5,", "and 40 more", "+PE", "+FE", "+BI", "waiting for the line",
        "pulses into a character", "never: work", "none: bytes", "RTS is held back", "time-out;", "overrun;",
+       "kept errors: PE;", "kept errors: FE BI;", "kept errors: PE FE BI;",
        "after 1 tick\n", "the model answers", "FIFOE", "DLM", "no known code", "5M1.5", "8S2 BREAK DLAB",
        "stopped:", "(IIR E6)", "(IIR CC)", "INTRPT high", "SOUT low", "asserted: RTS DTR")
 

@@ -51,6 +51,7 @@ STATE = {
         "hold": 32,
         "idle": four(33),
     },
+    "kept": {"pe": 34, "fe": 35, "bi": 36},
 }
 OUTPUTS = {"sout": 102, "rts": 103, "dtr": 104, "out1": 105, "out2": 106, "intrpt": 107}
 VALUES = {"number": 100, "part": 113, "seen": 101, "model": 108, "place": eight(109)}
@@ -97,6 +98,9 @@ class Layout(unittest.TestCase):
         uart.state.latches.idle = 7
         self.assertEqual(uart.read(LSR), 0x8B)
         self.assertEqual(uart.read(RBR), 0x5A)
+        kept = Uart()
+        kept.state.kept.fe = 1
+        self.assertEqual(kept.read(LSR), 0x68)
 
     def test_a_refused_state_stays(self):
         uart = Uart()

@@ -22,6 +22,7 @@ from tl16c750 import (
     MALFORMED,
     THR,
     Entry,
+    Errors,
     Refused,
     State,
     Uart,
@@ -69,7 +70,7 @@ class Values(unittest.TestCase):
     def test_compared_by_fields(self):
         a, b = Uart(), Uart()
         raw = memoryview(b.state).cast("B")
-        for place in (18, 19, 94, 95, 369, 370, 371):
+        for place in (18, 19, 94, 95, 369, 370, 371, 379):
             raw[place] ^= 0xFF
         self.assertEqual(a, b)
         self.assertEqual(a.state, b.state)
@@ -158,7 +159,7 @@ class Numbers(unittest.TestCase):
 
     def draw(self):
         """A state with another number in every place."""
-        numbers = [random.randrange(256) for _ in range(348)]
+        numbers = [random.randrange(256) for _ in range(351)]
         for place in (5, 6, 13, 78, 81, 339, 346):
             numbers[place - 1] = random.randrange(1 << 32)
         return numbers
@@ -182,16 +183,18 @@ class Numbers(unittest.TestCase):
 
     def test_each_in_its_place(self):
         given = Uart().numbers()
-        scr, idle = given[:], given[:]
+        scr, idle, kept = given[:], given[:], given[:]
         scr[3] = 77
         idle[345] = 5
+        kept[348:] = 1, 2, 3
         self.assertEqual(State.from_numbers(scr).registers.scr, 77)
         self.assertEqual(State.from_numbers(idle).latches.idle, 5)
+        self.assertEqual(State.from_numbers(kept).kept, Errors(1, 2, 3))
         self.assertEqual(answers(["fresh", "state"])[1].split(), [str(n) for n in given])
 
     def test_what_does_not_fit_is_told(self):
         given = Uart().numbers()
-        self.assertRaisesRegex(ValueError, "348 numbers, not 347", State.from_numbers, given[1:])
+        self.assertRaisesRegex(ValueError, "351 numbers, not 350", State.from_numbers, given[1:])
         self.assertRaisesRegex(ValueError, "Registers.ier", State.from_numbers, [256] + given[1:])
 
 
@@ -274,6 +277,19 @@ class Refusals(unittest.TestCase):
         for part in reversed(self.DAMAGE):
             self.damage(u, part)
             self.assertEqual(self.refusal(u.reset).part, part)
+
+    def test_errors_in_the_entries_or_beside_them(self):
+        fifo, kept, flagged = busy(), Uart(), Uart()
+        fifo.state.kept.pe = 1
+        kept.state.kept.pe = 2
+        flagged.state.rx.count = 1
+        flagged.state.rx.entries[0].pe = 1
+        for u in (fifo, kept, flagged):
+            self.assertEqual(self.refusal(u.reset).part, IN_RECEIVER)
+        kept.state.kept.pe = 1
+        flagged.state.rx.entries[0].pe = 0
+        for u in (kept, flagged):
+            u.reset()
 
     def test_other_numbers_have_no_part(self):
         u = busy()

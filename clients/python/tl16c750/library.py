@@ -20,7 +20,7 @@ from .structs import (
     Versions,
 )
 
-LAYOUT = 2
+LAYOUT = 3
 """The layout of the structs that this package is written for."""
 
 _CALLS: dict[str, tuple[Any, ...]] = {

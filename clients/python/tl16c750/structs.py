@@ -213,7 +213,7 @@ class Frame(Struct):
 
 @_struct
 class Entry(Struct):
-    """A received character with its error flags, each 0 or 1."""
+    """A received character with its error flags, each 0 or 1; with FIFO off they are 0."""
 
     byte: U8
     pe: U8
@@ -259,6 +259,16 @@ class Latches(Struct):
     idle: U32
 
 
+@_struct
+class Errors(Struct):
+    """The errors of character mode, each 0 or 1: a character that arrives adds its own, a read of RBR leaves
+    them, a read of LSR clears them. With FIFO on they are 0, and the errors are the entries' own."""
+
+    pe: U8
+    fe: U8
+    bi: U8
+
+
 # The order of the numbers of a state in the text protocol of the program `calls`.
 _ORDER = """
     registers.ier registers.mcr registers.lcr registers.scr baud.divisor baud.k
@@ -266,6 +276,7 @@ _ORDER = """
     tx.count tx.bytes frame.left frame.byte frame.format rx.count rx.entries
     receiver.phase receiver.position receiver.format receiver.samples receiver.parity
     latches.empty latches.overrun latches.timeout latches.idle latches.changes latches.hold
+    kept.pe kept.fe kept.bi
 """.split()
 
 
@@ -283,9 +294,10 @@ class State(Struct):
     rx: EntryQueue
     receiver: Receiver
     latches: Latches
+    kept: Errors
 
     def numbers(self) -> list[int]:
-        """The 348 numbers of the text protocol: what `state` writes and `load` takes."""
+        """The 351 numbers of the text protocol: what `state` writes and `load` takes."""
         numbers: list[int] = []
         for path in _ORDER:
             value = operator.attrgetter(path)(self)
@@ -300,7 +312,7 @@ class State(Struct):
 
     @classmethod
     def from_numbers(cls, numbers: Iterable[int]) -> State:
-        """The state of the 348 numbers of the text protocol. A number that the field's type cannot
+        """The state of the 351 numbers of the text protocol. A number that the field's type cannot
         hold is a ValueError."""
         given = list(numbers)
         state = cls()

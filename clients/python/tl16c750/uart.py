@@ -23,7 +23,7 @@ LCR, MCR, LSR, MSR, SCR = 3, 4, 5, 6, 7
 MALFORMED, BAD_ADDRESS, BAD_LEVEL, NO_CLOCK, HELD_BACK = 1, 2, 3, 4, 5
 BAD_HEADER, UNKNOWN_VERSION, BAD_RECORD = 6, 7, 8
 
-# The parts of a state: registers and baud; fifo and inputs; tx and frame; rx and receiver; latches.
+# The parts of a state: registers and baud; fifo and inputs; tx and frame; rx, receiver and kept; latches.
 IN_REGISTERS, IN_SETTINGS, IN_TRANSMITTER, IN_RECEIVER, IN_LATCHES = 1, 2, 3, 4, 5
 
 _WHY = {
@@ -41,7 +41,7 @@ _WHERE = {
     IN_REGISTERS: "registers, divisor or k",
     IN_SETTINGS: "FIFO settings and pins",
     IN_TRANSMITTER: "transmit queue and frame",
-    IN_RECEIVER: "receive queue and receiver",
+    IN_RECEIVER: "receive queue, receiver and kept errors",
     IN_LATCHES: "latches, OE, idle count, change bits and hold",
 }
 
@@ -241,11 +241,11 @@ class Uart:
 
     @classmethod
     def from_numbers(cls, numbers: Iterable[int]) -> Uart:
-        """The UART in the state of the 348 numbers of the text protocol."""
+        """The UART in the state of the 351 numbers of the text protocol."""
         return cls(State.from_numbers(numbers))
 
     def numbers(self) -> list[int]:
-        """The 348 numbers of the text protocol: what `state` writes and `load` takes."""
+        """The 351 numbers of the text protocol: what `state` writes and `load` takes."""
         return self._state.numbers()
 
     def copy(self) -> Uart:

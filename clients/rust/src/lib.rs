@@ -27,8 +27,8 @@ pub use file::File;
 pub use file::Told;
 
 pub use raw::{
-    Baud, ByteQueue, Entry, EntryQueue, FifoControl, Frame, Inputs, Latches, Outputs, Receiver,
-    Registers, State,
+    Baud, ByteQueue, Entry, EntryQueue, Errors, FifoControl, Frame, Inputs, Latches, Outputs,
+    Receiver, Registers, State,
 };
 
 /// Receive buffer, on reads.
@@ -67,7 +67,7 @@ pub enum StatePart {
     Settings = 2,
     /// `tx` and `frame`.
     Transmitter = 3,
-    /// `rx` and `receiver`.
+    /// `rx`, `receiver` and `kept`.
     Receiver = 4,
     /// `latches`.
     Latches = 5,
@@ -92,7 +92,7 @@ impl fmt::Display for StatePart {
             StatePart::Registers => "registers, divisor or k",
             StatePart::Settings => "FIFO settings and pins",
             StatePart::Transmitter => "transmit queue and frame",
-            StatePart::Receiver => "receive queue and receiver",
+            StatePart::Receiver => "receive queue, receiver and kept errors",
             StatePart::Latches => "latches, OE, idle count, change bits and hold",
         })
     }

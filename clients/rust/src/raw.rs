@@ -75,7 +75,7 @@ pub struct Frame {
     pub format: u8,
 }
 
-/// A received character with its error flags, each 0 or 1.
+/// A received character with its error flags, each 0 or 1; with FIFO off they are 0.
 #[repr(C)]
 #[derive(Clone, Copy, Debug, PartialEq, Eq, Hash)]
 pub struct Entry {
@@ -133,6 +133,19 @@ pub struct Latches {
     pub idle: u32,
 }
 
+/// The errors of character mode, each 0 or 1: a character that arrives adds its own, a read of RBR
+/// leaves them, a read of LSR clears them. With FIFO on they are 0, and the errors are the entries' own.
+#[repr(C)]
+#[derive(Clone, Copy, Debug, PartialEq, Eq, Hash)]
+pub struct Errors {
+    /// Parity error.
+    pub pe: u8,
+    /// Framing error.
+    pub fe: u8,
+    /// Break.
+    pub bi: u8,
+}
+
 /// A state. Any numbers may stand in it; one that is not well formed is refused.
 #[repr(C)]
 #[derive(Clone, Copy, Debug, PartialEq, Eq, Hash)]
@@ -155,6 +168,8 @@ pub struct State {
     pub receiver: Receiver,
     /// Latches, change bits, RTS hold, idle count.
     pub latches: Latches,
+    /// The errors of character mode, kept until LSR is read.
+    pub kept: Errors,
 }
 
 /// The output pins: SOUT and INTRPT 1 is high; the others 1 is asserted.
@@ -298,7 +313,7 @@ pub struct Versions {
 }
 
 /// The layout of the structs that this crate is written for.
-pub const LAYOUT: u32 = 2;
+pub const LAYOUT: u32 = 3;
 
 /// The library's own size of each struct, in bytes.
 #[repr(C)]

@@ -64,6 +64,11 @@ fn state() -> State {
             hold: 32,
             idle: four(33),
         },
+        kept: Errors {
+            pe: 34,
+            fe: 35,
+            bi: 36,
+        },
     }
 }
 
@@ -194,6 +199,9 @@ fn a_state_handed_in_arrives() {
     uart.state.latches.idle = 7;
     assert_eq!(uart.read(LSR), Ok(0x8B));
     assert_eq!(uart.read(RBR), Ok(0x5A));
+    let mut kept = Uart::fresh();
+    kept.state.kept.fe = 1;
+    assert_eq!(kept.read(LSR), Ok(0x68));
     uart.state.rx.entries[63].bi = 1;
     let before = uart;
     let refusal = Refusal::malformed(StatePart::Receiver);

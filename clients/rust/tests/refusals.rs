@@ -67,6 +67,24 @@ fn the_lowest_part_stands() {
 }
 
 #[test]
+fn errors_stand_in_the_entries_or_beside_them() {
+    let refusal = Err(Refusal::malformed(StatePart::Receiver));
+    let mut fifo = busy();
+    fifo.state.kept.pe = 1;
+    assert_eq!(fifo.pins(), refusal);
+    let mut character = Uart::fresh();
+    character.state.kept.pe = 1;
+    assert!(character.pins().is_ok());
+    character.state.kept.pe = 2;
+    assert_eq!(character.pins(), refusal);
+    let mut flagged = Uart::fresh();
+    flagged.state.rx.count = 1;
+    assert!(flagged.pins().is_ok());
+    flagged.state.rx.entries[0].pe = 1;
+    assert_eq!(flagged.pins(), refusal);
+}
+
+#[test]
 fn other_refusals_have_no_part() {
     let mut uart = busy();
     assert_eq!(uart.read(8), Err(Refusal::BAD_ADDRESS));
