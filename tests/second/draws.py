@@ -305,11 +305,15 @@ KEPT_OPS = ("read 0", "read 0", "read 5", "read 2", "pins", "state", "part", "wr
 
 
 def kept_segment(pick, lines):
-    """Bad characters in character mode, from a state that keeps errors or not; few reads of LSR."""
+    """Bad characters in character mode, from a state that keeps errors or not, or has one where its
+    mode or its range allows none."""
     s = st.clocked(st.random_lcr(pick) & 0x3F | (0x08 if pick(3) else 0))
     st.set_entries(s, [(st.random_byte(pick), 0, 0, 0)] * pick(2))
     st.random_kept(s, pick)
     s[st.IER], s[st.OE] = pick(16), pick(2)
+    if pick(8) == 0:
+        s[(st.KEPT, st.RX + 1)[pick(2)] + pick(3)] = 1 + pick(2)
+        s[st.FIFO_ON] = pick(2)
     lines.append(st.load_line(s))
     for _ in range(1 + pick(5)):
         Lines(lines).bits(bad_bits(pick, s[st.LCR]))
