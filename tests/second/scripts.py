@@ -1359,7 +1359,7 @@ def replays(q):
     s = clocked()
     for sin in (2, 1):
         s[st.SIN] = sin
-        for version in (0, 2, 3, 256, 65535, 1):
+        for version in (0, 2, 3, 256, 257, 65535, 1):
             q.load(s)
             q.replay([0x60000000, LSR_00], version)
             q.replay([], version)
