@@ -24,7 +24,7 @@ static const char help[] =
     "usage: calls [--help]\n"
     "\n"
     "Takes calls from standard input, one to a line, and writes a line of answer for each:\n"
-    "fresh, load V1 .. V348, state, reset, read A, write A B, sin V, modem V, tick, ticks N,\n"
+    "fresh, load V1 .. V351, state, reset, read A, write A B, sin V, modem V, tick, ticks N,\n"
     "pins, forecast, level T, run N, replay V W.., part.  Any other line is answered bad.\n"
     "\n"
     "The exit status is 0, or 2 where an argument is unknown, or reading or writing failed.\n";

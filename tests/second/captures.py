@@ -90,33 +90,38 @@ def loopback_modem(q):
         q.read(MSR)
 
 
-def with_flipped_parity(byte):
-    bits = st.frame_bits(byte, EVEN_PARITY)
-    bits[-2] ^= 1
-    return bits
-
-
-def with_low_stop(byte, form=EIGHT_BITS):
-    return st.frame_bits(byte, form)[:-1] + [0, 1]
+def rbr_before_lsr(q):
+    """An old driver's reads: in character mode LSR still shows the errors."""
+    q.read(IIR, RBR, IIR, LSR, IIR, LSR)
 
 
 def parity_errors(q):
     q.set_up(EVEN_PARITY, 2, 0x01, 0x05)
     for i, byte in enumerate((0x00, 0x41, 0xFF, 0x80, 0x01)):
-        q.bits(with_flipped_parity(byte) if i % 2 else st.frame_bits(byte, EVEN_PARITY), 2)
+        frame_bits = st.with_flipped_parity if i % 2 else st.frame_bits
+        q.bits(frame_bits(byte, EVEN_PARITY), 2)
         q.read(IIR)
     for _ in range(5):
         q.read(LSR, IIR, RBR)
     q.read(LSR)
+    q.write(FCR, 0x00)
+    for frame_bits in (st.with_flipped_parity, st.frame_bits, st.with_flipped_parity):
+        q.bits(frame_bits(0x41, EVEN_PARITY), 2)
+        rbr_before_lsr(q)
 
 
 def framing_errors(q):
     q.set_up(fcr=0x01, ier=0x05)
     for byte in (0x41, 0x00, 0xFF):
-        q.bits(with_low_stop(byte))
+        q.bits(st.with_low_stop(byte, EIGHT_BITS) + [1])
         q.ticks(200)
         q.read(IIR, LSR, LSR, RBR)
     drain(q)
+    q.write(FCR, 0x00)
+    q.bits(st.with_low_stop(0x41, EIGHT_BITS) + [1])
+    rbr_before_lsr(q)
+    q.ticks(200)
+    rbr_before_lsr(q)
 
 
 def breaks(q):
@@ -133,6 +138,9 @@ def breaks(q):
         q.read(LSR)
         q.character(0x55, EIGHT_BITS)
         drain(q)
+    q.write(FCR, 0x00)
+    q.bits([0] * 10 + [1])
+    rbr_before_lsr(q)
 
 
 def overruns(fcr, characters):

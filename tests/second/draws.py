@@ -1,9 +1,9 @@
 """Random scripts for `calls` and random captures for `replay`.
 
 Scripts: random well-formed states near boundaries with steps after them, sequences as a driver would
-write them, characters on SIN with and without errors, forecasts with levels and runs around them,
-replays, states damaged in one part or two, lines of wrong form. Captures: the same steps as records,
-most of them as they are, the others damaged.
+write them, characters on SIN with and without errors, errors kept in character mode, forecasts with
+levels and runs around them, replays, states damaged in one part or two, lines of wrong form.
+Captures: the same steps as records, most of them as they are, the others damaged.
 
 pick(n) gives a random number from 0 to n - 1. The bytes of reads in records come from a recorder.
 """
@@ -293,6 +293,35 @@ def line_segment(pick, lines):
     lines.append("state")
 
 
+def bad_bits(pick, lcr):
+    """The bits of a character with parity or stop wrong, or of a break; of a good one now and then."""
+    byte = st.random_byte(pick)
+    return (st.with_flipped_parity(byte, lcr), st.with_low_stop(byte, lcr),
+            [0] * len(st.frame_bits(0, lcr)) + [1], st.frame_bits(byte, lcr))[pick(4)]
+
+
+KEPT_OPS = ("read 0", "read 0", "read 5", "read 2", "pins", "state", "part", "write 2 0", "write 2 6",
+            "write 2 1", "write 1 4", "reset")
+
+
+def kept_segment(pick, lines):
+    """Bad characters in character mode, from a state that keeps errors or not, or has one where its
+    mode or its range allows none."""
+    s = st.clocked(st.random_lcr(pick) & 0x3F | (0x08 if pick(3) else 0))
+    st.set_entries(s, [(st.random_byte(pick), 0, 0, 0)] * pick(2))
+    st.random_kept(s, pick)
+    s[st.IER], s[st.OE] = pick(16), pick(2)
+    if pick(8) == 0:
+        s[(st.KEPT, st.RX + 1)[pick(2)] + pick(3)] = 1 + pick(2)
+        s[st.FIFO_ON] = pick(2)
+    lines.append(st.load_line(s))
+    for _ in range(1 + pick(5)):
+        Lines(lines).bits(bad_bits(pick, s[st.LCR]))
+        for _ in range(pick(3)):
+            lines.append(KEPT_OPS[pick(len(KEPT_OPS))])
+    lines += ("read 2", "read 0", "read 5", "state")
+
+
 def loop_segment(pick, lines):
     """Queued bytes through loopback, LCR sometimes written in the middle."""
     s = st.random_state(pick)
@@ -365,14 +394,14 @@ def refused_segment(pick, lines):
 
 
 SEGMENTS = ((boundary_segment,) * 5 + (one_step_segment,) * 5 + (driver_segment,) * 3 +
-            (line_segment,) * 2 + (loop_segment,) * 2 + (foretell_segment,) * 2 +
+            (line_segment,) * 2 + (loop_segment,) * 2 + (kept_segment,) * 2 + (foretell_segment,) * 2 +
             (damaged_segment,) * 3 + (refused_segment,))
 
 
 # ---- Records ----
 
 RECORDED = ("tick", "ticks", "read", "write", "sin", "modem", "reset")
-SOURCES = (driver_segment,) * 4 + (boundary_segment, line_segment, loop_segment)
+SOURCES = (driver_segment,) * 4 + (boundary_segment, line_segment, kept_segment, loop_segment)
 
 
 def is_recorded(line):

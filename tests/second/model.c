@@ -1,6 +1,7 @@
 /*
- * A model of one TL16C750 UART, written from document 01; the parts of a state
- * from document 02, request b. (h) marks house rules, as in document 01.
+ * A model of one TL16C750 UART, written from document 01; from document 02 the
+ * parts of a state (request b) and the errors kept in character mode (request c).
+ * (h) marks house rules, as in document 01.
  */
 #include "model.h"
 
@@ -237,9 +238,18 @@ static inline uint32_t transmitter_line(const struct uart *u)
                        frame_length(u->frame_format) - u->frame_left);
 }
 
-static inline bool entry_has_error(const struct uart_entry *e)
+static const struct uart_errors no_errors;
+
+/* The three or-ed together: 0 where there is no error. */
+static inline uint32_t any_error(const struct uart_errors *e)
 {
-    return (e->pe | e->fe | e->bi) != 0u;
+    return e->pe | e->fe | e->bi;
+}
+
+/* What LSR and interrupt 06 follow: the oldest entry's errors, in character mode the kept ones. */
+static inline const struct uart_errors *shown_errors(const struct uart *u)
+{
+    return u->fifo_on != 0u ? &u->rx_queue[0].errors : &u->kept;
 }
 
 /* ---- The ranges of a well-formed state ("The state") ---- */
@@ -280,7 +290,10 @@ static bool transmit_queue_in_range(const struct uart *u)
     return used <= 0xFFu && beyond == 0u;
 }
 
-/* Entries up to the count, which is at most the capacity; zero beyond it. */
+/*
+ * Entries up to the count, which is at most the capacity; zero beyond it. An
+ * entry's own errors are 0 with FIFO off.
+ */
 static bool receive_queue_in_range(const struct uart *u)
 {
     uint32_t bytes = 0u;
@@ -291,13 +304,17 @@ static bool receive_queue_in_range(const struct uart *u)
         return false;
     for (uint32_t i = 0u; i < u->rx_count; i++) {
         bytes |= u->rx_queue[i].byte;
-        errors |= u->rx_queue[i].pe | u->rx_queue[i].fe | u->rx_queue[i].bi;
+        errors |= any_error(&u->rx_queue[i].errors);
     }
-    for (uint32_t i = u->rx_count; i < UART_QUEUE_PLACES; i++) {
-        beyond |= u->rx_queue[i].byte;
-        beyond |= u->rx_queue[i].pe | u->rx_queue[i].fe | u->rx_queue[i].bi;
-    }
-    return bytes <= 0xFFu && errors <= 1u && beyond == 0u;
+    for (uint32_t i = u->rx_count; i < UART_QUEUE_PLACES; i++)
+        beyond |= u->rx_queue[i].byte | any_error(&u->rx_queue[i].errors);
+    return bytes <= 0xFFu && errors <= u->fifo_on && beyond == 0u;
+}
+
+/* Each kept error is 0 or 1 with FIFO off, 0 with FIFO on. */
+static bool kept_in_range(const struct uart *u)
+{
+    return any_error(&u->kept) <= (u->fifo_on != 0u ? 0u : 1u);
 }
 
 /* L 0..192 and at most its frame's length, with byte and format; all zero if L = 0. */
@@ -375,7 +392,7 @@ uint32_t uart_part(const struct uart *u)
         return UART_PART_FIFO;
     if (!transmit_queue_in_range(u) || !frame_in_range(u))
         return UART_PART_TRANSMIT;
-    if (!receive_queue_in_range(u) || !receiver_in_range(u))
+    if (!receive_queue_in_range(u) || !receiver_in_range(u) || !kept_in_range(u))
         return UART_PART_RECEIVE;
     if (!latches_in_range(u) || !flow_in_range(u))
         return UART_PART_LATCHES;
@@ -443,7 +460,7 @@ static void clear_receive_queue(struct uart *u)
 
 static bool line_status_pending(const struct uart *u)
 {
-    return u->overrun != 0u || entry_has_error(&u->rx_queue[0]);
+    return u->overrun != 0u || any_error(shown_errors(u)) != 0u;
 }
 
 /* Count at or above the trigger; in character mode, data waiting. */
@@ -526,25 +543,25 @@ static uint32_t iir_byte(const struct uart *u)
 static bool any_entry_has_error(const struct uart *u)
 {
     for (uint32_t i = 0u; i < u->rx_count; i++)
-        if (entry_has_error(&u->rx_queue[i]))
+        if (any_error(&u->rx_queue[i].errors) != 0u)
             return true;
     return false;
 }
 
 static uint32_t lsr_byte(const struct uart *u)
 {
-    const struct uart_entry *oldest = &u->rx_queue[0];
+    const struct uart_errors *shown = shown_errors(u);
     uint32_t lsr = 0u;
 
     if (u->rx_count != 0u)
         lsr |= LSR_DATA;
     if (u->overrun != 0u)
         lsr |= LSR_OE;
-    if (oldest->pe != 0u)
+    if (shown->pe != 0u)
         lsr |= LSR_PE;
-    if (oldest->fe != 0u)
+    if (shown->fe != 0u)
         lsr |= LSR_FE;
-    if (oldest->bi != 0u)
+    if (shown->bi != 0u)
         lsr |= LSR_BI;
     if (u->tx_count == 0u)
         lsr |= LSR_TX_QUEUE_EMPTY;
@@ -586,7 +603,10 @@ uint32_t uart_peek(const struct uart *u, uint32_t address)
 
 /* ---- Register reads: what a read changes ---- */
 
-/* The oldest byte is removed; time-out latch and idle count go to 0. Empty: nothing changes (h). */
+/*
+ * The oldest byte is removed; time-out latch and idle count go to 0; the kept
+ * errors stay. Empty: nothing changes (h).
+ */
 static void end_rbr_read(struct uart *u)
 {
     if (u->rx_count == 0u)
@@ -603,15 +623,12 @@ static void end_iir_read(struct uart *u, uint32_t iir)
         u->tx_empty_latch = 0u;
 }
 
-/* OE and the oldest entry's errors are cleared. */
+/* OE and the errors shown are cleared; of the two below the other has none. */
 static void end_lsr_read(struct uart *u)
 {
-    struct uart_entry *oldest = &u->rx_queue[0];
-
     u->overrun = 0u;
-    oldest->pe = 0u;
-    oldest->fe = 0u;
-    oldest->bi = 0u;
+    u->rx_queue[0].errors = no_errors;
+    u->kept = no_errors;
 }
 
 void uart_end_read(struct uart *u, uint32_t address, uint32_t byte)
@@ -667,7 +684,10 @@ static void write_divisor(struct uart *u, uint32_t divisor)
     u->k = divisor;
 }
 
-/* Bit 0 clear turns FIFO off, other bits ignored. Changing on to off clears both queues. */
+/*
+ * Bit 0 clear turns FIFO off, other bits ignored. Changing on to off clears both
+ * queues; no errors are kept with FIFO on. Off already: nothing changes.
+ */
 static void turn_fifo_off(struct uart *u)
 {
     if (u->fifo_on == 0u)
@@ -681,6 +701,7 @@ static void turn_fifo_off(struct uart *u)
  * Bit 0 set turns FIFO on; bits 7,6 give the trigger code, bit 3 the DMA bit,
  * bit 5 the size, only when LCR7 = 1 (else it stays); bits 1 and 2 clear the
  * receive and transmit queue. Changing FIFO on/off or size clears both (size: h).
+ * Changing off to on clears the kept errors, and with FIFO on there are none.
  */
 static void write_fcr(struct uart *u, uint32_t byte)
 {
@@ -696,6 +717,7 @@ static void write_fcr(struct uart *u, uint32_t byte)
     changed = u->fifo_on == 0u || size64 != u->size64;
 
     u->fifo_on = 1u;
+    u->kept = no_errors;
     u->size64 = size64;
     u->dma = (byte & FCR_DMA) != 0u ? 1u : 0u;
     u->trigger_code = byte >> FCR_TRIGGER_SHIFT;
@@ -794,12 +816,24 @@ static void leave_character(struct uart *u, uint32_t rx_state)
     u->rx_parity = 0u;
 }
 
+/* Adds a character's errors to the kept ones; its entry then has none. */
+static void keep_errors(struct uart *u, struct uart_errors *errors)
+{
+    u->kept.pe |= errors->pe;
+    u->kept.fe |= errors->fe;
+    u->kept.bi |= errors->bi;
+    *errors = no_errors;
+}
+
 /*
  * A full queue sets OE; with FIFO on the new character is lost, in character
- * mode it replaces the old. True if the character entered the queue.
+ * mode it replaces the old, and its errors are kept apart from it. True if the
+ * character entered the queue.
  */
 static bool store_character(struct uart *u, struct uart_entry entry)
 {
+    if (u->fifo_on == 0u)
+        keep_errors(u, &entry.errors);
     if (u->rx_count < capacity(u)) {
         u->rx_queue[u->rx_count] = entry;
         u->rx_count++;
@@ -824,14 +858,14 @@ static bool end_character(struct uart *u, uint32_t stop)
 
     entry.byte = u->rx_data;
     if (parity_bits(format) != 0u && u->rx_parity != parity_bit(u->rx_data, format))
-        entry.pe = 1u;
-    entry.fe = stop ^ 1u;
+        entry.errors.pe = 1u;
+    entry.errors.fe = stop ^ 1u;
     if (stop == 0u && u->rx_data == 0u && u->rx_parity == 0u)
-        entry.bi = 1u;
+        entry.errors.bi = 1u;
 
     if (stop != 0u)
         leave_character(u, UART_RX_IDLE);
-    else if (entry.bi != 0u)
+    else if (entry.errors.bi != 0u)
         leave_character(u, UART_RX_WAIT_MARK);
     else
         begin_character(u, FIRST_SAMPLE);

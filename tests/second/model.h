@@ -1,6 +1,7 @@
 /*
  * A model of one TL16C750 UART: its bus, serial line, modem pins and clock.
- * Written from document 01; the section names in the comments are its own.
+ * Written from document 01, with document 02's requests b and c; the section names
+ * in the comments are document 01's own.
  */
 #ifndef MODEL_H
 #define MODEL_H
@@ -9,7 +10,7 @@
 #include <stdint.h>
 
 #define UART_QUEUE_PLACES 64u
-#define UART_STATE_PLACES 348u
+#define UART_STATE_PLACES 351u
 
 /* "Numbers answered". */
 #define UART_DONE 0u
@@ -24,7 +25,7 @@
 #define UART_PART_REGISTERS 1u /* registers, divisor, k */
 #define UART_PART_FIFO 2u      /* FIFO settings and pins */
 #define UART_PART_TRANSMIT 3u  /* transmit queue and frame */
-#define UART_PART_RECEIVE 4u   /* receive queue and receiver */
+#define UART_PART_RECEIVE 4u   /* receive queue, receiver, kept errors */
 #define UART_PART_LATCHES 5u   /* latches, OE, idle count, change bits, hold */
 
 /* What the receiver is doing. */
@@ -32,12 +33,17 @@
 #define UART_RX_WAIT_MARK 1u
 #define UART_RX_CHARACTER 2u
 
-/* One entry of the receive queue: a byte and the errors that came with it. */
-struct uart_entry {
-    uint32_t byte;
+/* The errors of received characters. */
+struct uart_errors {
     uint32_t pe;
     uint32_t fe;
     uint32_t bi;
+};
+
+/* One entry of the receive queue: a byte and, with FIFO on, the errors that came with it. */
+struct uart_entry {
+    uint32_t byte;
+    struct uart_errors errors;
 };
 
 /*
@@ -85,6 +91,9 @@ struct uart {
     uint32_t idle_count;
     uint32_t changes; /* bits 0..3: changes of CTS, DSR, RI, DCD */
     uint32_t rts_hold;
+
+    /* Character mode's errors, kept apart from the byte (document 02, request c). */
+    struct uart_errors kept;
 };
 
 /* SOUT and INTRPT: 1 is high. The others: 1 is asserted. */
@@ -131,7 +140,7 @@ void uart_do_ticks(struct uart *u, uint32_t count);
 
 /*
  * The lowest part of a state that breaks a range of document 01, section "The
- * state", or 0. A range that joins two parts counts for the later one.
+ * state", or of request c, or 0. A range that joins two parts counts for the later one.
  */
 uint32_t uart_part(const struct uart *u);
 

@@ -29,7 +29,8 @@ STORED = os.path.join(HERE, "..", "..", "crates", "calls")
 PART_1 = "    if (!registers_in_range(u) || !clock_in_range(u))\n        return UART_PART_REGISTERS;\n"
 PART_2 = "    if (!fifo_and_pins_in_range(u))\n        return UART_PART_FIFO;\n"
 PART_3 = "    if (!transmit_queue_in_range(u) || !frame_in_range(u))\n        return UART_PART_TRANSMIT;\n"
-PART_4 = "    if (!receive_queue_in_range(u) || !receiver_in_range(u))\n        return UART_PART_RECEIVE;\n"
+PART_4 = ("    if (!receive_queue_in_range(u) || !receiver_in_range(u) || !kept_in_range(u))\n"
+          "        return UART_PART_RECEIVE;\n")
 PART_5 = "    if (!latches_in_range(u) || !flow_in_range(u))\n        return UART_PART_LATCHES;\n"
 
 
@@ -43,6 +44,13 @@ def too_wide_is(part):
     return ("    for (uint32_t i = 0u; i < UART_STATE_PLACES; i++)\n"
             "        if ((&u->ier)[i] > 255u && i != 4u && i != 5u && i != 345u)\n"
             "            return %s;\n" % part) + PART_1
+
+
+# The errors that a read of LSR clears.
+LSR_CLEARS = "    u->rx_queue[0].errors = no_errors;\n    u->kept = no_errors;\n"
+
+# Where a character's errors are kept.
+KEEPS = "    if (u->fifo_on == 0u)\n        keep_errors(u, &entry.errors);\n"
 
 
 # Name, file, text, text in its place. The text stands exactly once in the file.
@@ -66,8 +74,8 @@ MUTANTS = [
      "        return IIR_TIMEOUT;\n"
      "    if ((u->ier & IER_RX_DATA) != 0u && rx_data_pending(u))"),
     ("a later entry's error in LSR2", "model.c",
-     "    if (oldest->pe != 0u)\n",
-     "    if (oldest->pe != 0u || u->rx_queue[1].pe != 0u)\n"),
+     "    if (shown->pe != 0u)\n",
+     "    if (shown->pe != 0u || u->rx_queue[1].errors.pe != 0u)\n"),
 
     # Frames.
     ("parity of all eight bits", "model.c", "ones_are_odd(byte & data_mask(format))",
@@ -134,14 +142,14 @@ MUTANTS = [
     ("idle after a break", "model.c", "        leave_character(u, UART_RX_WAIT_MARK);",
      "        leave_character(u, UART_RX_IDLE);"),
     ("wait for mark after every framing error", "model.c",
-     "    else if (entry.bi != 0u)\n", "    else if (entry.fe != 0u)\n"),
+     "    else if (entry.errors.bi != 0u)\n", "    else if (entry.errors.fe != 0u)\n"),
     ("break without the parity sample", "model.c",
      "    if (stop == 0u && u->rx_data == 0u && u->rx_parity == 0u)",
      "    if (stop == 0u && u->rx_data == 0u)"),
-    ("no PE in a break", "model.c", "        entry.bi = 1u;\n",
-     "    {\n        entry.bi = 1u;\n        entry.pe = 0u;\n    }\n"),
-    ("no FE in a break", "model.c", "        entry.bi = 1u;\n",
-     "    {\n        entry.bi = 1u;\n        entry.fe = 0u;\n    }\n"),
+    ("no PE in a break", "model.c", "        entry.errors.bi = 1u;\n",
+     "    {\n        entry.errors.bi = 1u;\n        entry.errors.pe = 0u;\n    }\n"),
+    ("no FE in a break", "model.c", "        entry.errors.bi = 1u;\n",
+     "    {\n        entry.errors.bi = 1u;\n        entry.errors.fe = 0u;\n    }\n"),
     ("a start in the pulse that ends a break", "model.c",
      "    } else if (line != 0u) {\n        u->rx_state = UART_RX_IDLE;\n    }",
      "    } else if (line == 0u) {\n        u->rx_state = UART_RX_IDLE;\n    }"),
@@ -149,9 +157,6 @@ MUTANTS = [
     ("no OE in character mode", "model.c", "    u->overrun = 1u;\n", "    u->overrun |= u->fifo_on;\n"),
     ("the old character kept in character mode", "model.c",
      "    u->rx_queue[0] = entry;\n    return true;", "    return true;"),
-    ("errors kept when a character is replaced", "model.c",
-     "    u->rx_queue[0] = entry;\n    return true;",
-     "    u->rx_queue[0].byte = entry.byte;\n    return true;"),
     ("the last entry replaced in a full FIFO", "model.c",
      "    if (u->fifo_on != 0u)\n        return false;\n    u->rx_queue[0] = entry;",
      "    if (u->fifo_on != 0u) {\n        u->rx_queue[u->rx_count - 1u] = entry;\n"
@@ -264,18 +269,17 @@ MUTANTS = [
      "    u->rx_count = 0u;\n    u->rx_state = u->rx_position = u->rx_format = 0u;\n"
      "    u->rx_data = u->rx_parity = 0u;\n    u->timeout_latch = 0u;"),
     ("LSR7 in character mode", "model.c", "    if (u->fifo_on != 0u && any_entry_has_error(u))",
-     "    if (any_entry_has_error(u))"),
+     "    if (any_error(shown) != 0u || any_entry_has_error(u))"),
     ("LSR7 of the oldest entry only", "model.c",
      "    if (u->fifo_on != 0u && any_entry_has_error(u))",
-     "    if (u->fifo_on != 0u && entry_has_error(oldest))"),
+     "    if (u->fifo_on != 0u && any_error(shown) != 0u)"),
     ("LSR6 without L", "model.c", "    if (transmitter_empty(u))\n        lsr |= LSR_TX_EMPTY;",
      "    if (u->tx_count == 0u)\n        lsr |= LSR_TX_EMPTY;"),
-    ("LSR read keeps OE", "model.c", "    u->overrun = 0u;\n    oldest->pe = 0u;",
-     "    oldest->pe = 0u;"),
-    ("LSR read keeps the oldest entry's BI", "model.c",
-     "    oldest->fe = 0u;\n    oldest->bi = 0u;", "    oldest->fe = 0u;"),
-    ("LSR read clears the next entry's errors", "model.c", "    oldest->bi = 0u;\n",
-     "    oldest->bi = 0u;\n    if (u->rx_count > 1u)\n        u->rx_queue[1].pe = 0u;\n"),
+    ("LSR read keeps OE", "model.c", "    u->overrun = 0u;\n" + LSR_CLEARS, LSR_CLEARS),
+    ("LSR read keeps the oldest entry's BI", "model.c", LSR_CLEARS,
+     "    u->rx_queue[0].errors.pe = u->rx_queue[0].errors.fe = 0u;\n    u->kept = no_errors;\n"),
+    ("LSR read clears the next entry's errors", "model.c", LSR_CLEARS,
+     LSR_CLEARS + "    if (u->rx_count > 1u)\n        u->rx_queue[1].errors.pe = 0u;\n"),
     ("MSR read keeps the changes", "model.c", "    case ADDR_MSR:\n        u->changes = 0u;\n",
      "    case ADDR_MSR:\n"),
     ("LSR write sets OE", "model.c", "    case ADDR_SCR:\n        u->scr = byte;",
@@ -366,12 +370,12 @@ MUTANTS = [
      "    if ((u->ier & IER_RX_DATA) != 0u && rx_data_pending(u))\n        return IIR_RX_DATA;\n"
      "    if ((u->ier & IER_LINE_STATUS) != 0u && line_status_pending(u))"),
     ("line status of any entry", "model.c",
-     "    return u->overrun != 0u || entry_has_error(&u->rx_queue[0]);",
-     "    return u->overrun != 0u || entry_has_error(&u->rx_queue[0]) ||\n"
-     "           entry_has_error(&u->rx_queue[1]);"),
+     "    return u->overrun != 0u || any_error(shown_errors(u)) != 0u;",
+     "    return u->overrun != 0u || any_error(shown_errors(u)) != 0u ||\n"
+     "           any_error(&u->rx_queue[1].errors) != 0u;"),
     ("line status without OE", "model.c",
-     "    return u->overrun != 0u || entry_has_error(&u->rx_queue[0]);",
-     "    return entry_has_error(&u->rx_queue[0]);"),
+     "    return u->overrun != 0u || any_error(shown_errors(u)) != 0u;",
+     "    return any_error(shown_errors(u)) != 0u;"),
     ("data interrupt above the trigger only", "model.c",
      "    return u->rx_count >= trigger_level(u);\n}\n\nstatic uint32_t interrupt_code",
      "    return u->rx_count > trigger_level(u);\n}\n\nstatic uint32_t interrupt_code"),
@@ -466,14 +470,14 @@ MUTANTS = [
     ("range: queued bytes", "model.c", "    return used <= 0xFFu && beyond == 0u;",
      "    return beyond == 0u;"),
     ("range: receive places beyond the count", "model.c",
-     "    return bytes <= 0xFFu && errors <= 1u && beyond == 0u;",
-     "    return bytes <= 0xFFu && errors <= 1u;"),
+     "    return bytes <= 0xFFu && errors <= u->fifo_on && beyond == 0u;",
+     "    return bytes <= 0xFFu && errors <= u->fifo_on;"),
     ("range: receive errors", "model.c",
-     "    return bytes <= 0xFFu && errors <= 1u && beyond == 0u;",
-     "    return bytes <= 0xFFu && beyond == 0u;"),
+     "    return bytes <= 0xFFu && errors <= u->fifo_on && beyond == 0u;",
+     "    return bytes <= 0xFFu && (errors == 0u || u->fifo_on != 0u) && beyond == 0u;"),
     ("range: receive bytes", "model.c",
-     "    return bytes <= 0xFFu && errors <= 1u && beyond == 0u;",
-     "    return errors <= 1u && beyond == 0u;"),
+     "    return bytes <= 0xFFu && errors <= u->fifo_on && beyond == 0u;",
+     "    return errors <= u->fifo_on && beyond == 0u;"),
     ("range: transmit count of 64 in a FIFO of 16", "model.c",
      "    if (u->tx_count > capacity(u))", "    if (u->tx_count > 64u)"),
     ("range: receive count of 64 in a FIFO of 16", "model.c",
@@ -518,9 +522,9 @@ MUTANTS = [
      "        return u->timeout_latch == 0u && u->idle_count == 0u;\n"
      "    return u->timeout_latch != 0u || u->idle_count <= 4u * frame_length(u->lcr);"),
     ("range: BI needs FE", "model.c",
-     "        errors |= u->rx_queue[i].pe | u->rx_queue[i].fe | u->rx_queue[i].bi;",
-     "        errors |= u->rx_queue[i].pe | u->rx_queue[i].fe | u->rx_queue[i].bi;\n"
-     "        if (u->rx_queue[i].bi > u->rx_queue[i].fe)\n            return false;"),
+     "        errors |= any_error(&u->rx_queue[i].errors);",
+     "        errors |= any_error(&u->rx_queue[i].errors);\n"
+     "        if (u->rx_queue[i].errors.bi > u->rx_queue[i].errors.fe)\n            return false;"),
     ("range: size bit 0 with FIFO off", "model.c",
      "    return u->fifo_on <= 1u && u->size64 <= 1u && ",
      "    return u->fifo_on <= 1u && u->size64 <= u->fifo_on && "),
@@ -552,6 +556,12 @@ MUTANTS = [
      PART_3.replace(" || !frame_in_range(u)", "") + also(PART_4, "!frame_in_range(u)")),
     ("part: receiver in 5", "model.c", PART_4 + PART_5,
      PART_4.replace(" || !receiver_in_range(u)", "") + also(PART_5, "!receiver_in_range(u)")),
+    ("part: kept errors in 5", "model.c", PART_4 + PART_5,
+     PART_4.replace(" || !kept_in_range(u)", "") + also(PART_5, "!kept_in_range(u)")),
+    ("part: kept errors with FIFO on in 2", "model.c", PART_2,
+     also(PART_2, "(u->fifo_on == 1u && any_error(&u->kept) == 1u)")),
+    ("part: an entry's errors with FIFO off in 2", "model.c", PART_2,
+     also(PART_2, "(u->fifo_on == 0u && any_error(&u->rx_queue[0].errors) == 1u)")),
     ("part: OE in 4", "model.c", PART_4, also(PART_4, "u->overrun > 1u")),
     ("part: transmit-empty latch on a queue in 3", "model.c", PART_3,
      also(PART_3, "(u->tx_empty_latch == 1u && u->tx_count != 0u)")),
@@ -575,7 +585,7 @@ MUTANTS = [
      also(PART_4, "(u->rts_hold == 0u && hold_by_rule(u) == 1u)")),
     ("part: 1 for every number too wide", "model.c", PART_1, too_wide_is("UART_PART_REGISTERS")),
     ("part: a number too wide before a lower part", "model.c", PART_1,
-     too_wide_is("i < 6u ? 1u : i < 12u ? 2u : i < 80u ? 3u : i < 342u ? 4u : 5u")),
+     too_wide_is("i < 6u ? 1u : i < 12u ? 2u : i < 80u ? 3u : i < 342u || i > 347u ? 4u : 5u")),
     ("part: of a well-formed state", "calls.c", "    put_pair(a.number, a.part);",
      "    put_pair(a.number, a.part != 0u ? a.part : 1u);"),
     ("part: without its number", "calls.c", "    put_pair(a.number, a.part);",
@@ -602,8 +612,7 @@ MUTANTS = [
     ("time-out latch cleared by IIR read", "model.c", "    if ((iir & IIR_CODE) == IIR_TX_EMPTY)\n",
      "    if ((iir & IIR_CODE) == IIR_TIMEOUT)\n        u->timeout_latch = 0u;\n"
      "    if ((iir & IIR_CODE) == IIR_TX_EMPTY)\n"),
-    ("latch cleared by LSR read", "model.c", "    u->overrun = 0u;\n    oldest->pe = 0u;",
-     "    u->overrun = 0u;\n    u->tx_empty_latch = 0u;\n    oldest->pe = 0u;"),
+    ("latch cleared by LSR read", "model.c", LSR_CLEARS, LSR_CLEARS + "    u->tx_empty_latch = 0u;\n"),
     ("OE cleared by RBR read", "model.c", "    remove_oldest_entry(u);\n",
      "    u->overrun = 0u;\n    remove_oldest_entry(u);\n"),
     ("data interrupt from one byte on", "model.c", "    if (u->fifo_on == 0u)\n        return u->rx_count != 0u;",
@@ -642,7 +651,84 @@ MUTANTS = [
      "    if (u->idle_count < IDLE_LIMIT)\n        u->idle_count++;",
      "    if (u->idle_count <= 4u * frame_length(u->lcr))\n        u->idle_count++;"),
 
+    # Errors kept in character mode.
+    ("kept: cleared by RBR read", "model.c", "    remove_oldest_entry(u);\n",
+     "    u->kept = no_errors;\n    remove_oldest_entry(u);\n"),
+    ("kept: cleared by RBR read of an empty queue", "model.c",
+     "    if (u->rx_count == 0u)\n        return;\n    u->timeout_latch = 0u;",
+     "    if (u->rx_count == 0u) {\n        u->kept = no_errors;\n        return;\n    }\n"
+     "    u->timeout_latch = 0u;"),
+    ("kept: cleared by a good character", "model.c", KEEPS,
+     "    if (u->fifo_on == 0u && any_error(&entry.errors) == 0u)\n        u->kept = no_errors;\n" + KEEPS),
+    ("kept: the last character's only", "model.c", KEEPS,
+     "    if (u->fifo_on == 0u)\n        u->kept = no_errors;\n" + KEEPS),
+    ("kept: cleared when a character is replaced", "model.c", KEEPS,
+     "    if (u->fifo_on == 0u && u->rx_count != 0u)\n        u->kept = no_errors;\n" + KEEPS),
+    ("kept: not of a character that replaces another", "model.c", KEEPS,
+     "    if (u->fifo_on == 0u && u->rx_count != 0u)\n        entry.errors = no_errors;\n" + KEEPS),
+    ("kept: no PE", "model.c", "    u->kept.pe |= errors->pe;\n", ""),
+    ("kept: no FE", "model.c", "    u->kept.fe |= errors->fe;\n", ""),
+    ("kept: no BI", "model.c", "    u->kept.bi |= errors->bi;\n", ""),
+    ("kept: flipped by a second error", "model.c", "    u->kept.pe |= errors->pe;\n",
+     "    u->kept.pe ^= errors->pe;\n"),
+    ("kept: the entry has its own too", "model.c", "    *errors = no_errors;\n", ""),
+    ("kept: with FIFO on too", "model.c", KEEPS, "    keep_errors(u, &entry.errors);\n"),
+    ("kept: with FIFO on beside the entry's own", "model.c", KEEPS,
+     KEEPS + "    u->kept.pe |= entry.errors.pe;\n"),
+    ("kept: not cleared by LSR read", "model.c", LSR_CLEARS,
+     LSR_CLEARS.replace("    u->kept = no_errors;\n", "")),
+    ("kept: BI not cleared by LSR read", "model.c", LSR_CLEARS,
+     LSR_CLEARS.replace("u->kept = no_errors", "u->kept.pe = u->kept.fe = 0u")),
+    ("kept: cleared by LSR read with data only", "model.c", LSR_CLEARS,
+     LSR_CLEARS.replace("    u->kept", "    if (u->rx_count != 0u)\n        u->kept")),
+    ("kept: cleared by IIR read", "model.c", "    if ((iir & IIR_CODE) == IIR_TX_EMPTY)\n",
+     "    if ((iir & IIR_CODE) == IIR_LINE_STATUS)\n        u->kept = no_errors;\n"
+     "    if ((iir & IIR_CODE) == IIR_TX_EMPTY)\n"),
+    ("kept: not cleared by FIFO on", "model.c", "    u->fifo_on = 1u;\n    u->kept = no_errors;\n",
+     "    u->fifo_on = 1u;\n"),
+    ("kept: cleared by FIFO off when off", "model.c",
+     "    if (u->fifo_on == 0u)\n        return;\n    u->fifo_on = 0u;",
+     "    u->kept = no_errors;\n    if (u->fifo_on == 0u)\n        return;\n    u->fifo_on = 0u;"),
+    ("kept: cleared by a receive clear when off", "model.c",
+     "        turn_fifo_off(u);\n        return;",
+     "        if ((byte & FCR_CLEAR_RX) != 0u)\n            u->kept = no_errors;\n"
+     "        turn_fifo_off(u);\n        return;"),
+    ("kept: the oldest entry's from FIFO off on", "model.c", "    u->fifo_on = 0u;\n    clear_receive",
+     "    u->fifo_on = 0u;\n    u->kept = u->rx_queue[0].errors;\n    clear_receive"),
+    ("kept: OE goes with FIFO on", "model.c", "    u->fifo_on = 1u;\n    u->kept = no_errors;\n",
+     "    if (u->fifo_on == 0u)\n        u->overrun = 0u;\n    u->fifo_on = 1u;\n"
+     "    u->kept = no_errors;\n"),
+    ("kept: left by reset", "model.c", "    uart_fresh(u);\n    u->scr = scr;\n",
+     "    struct uart_errors kept = u->kept;\n    uart_fresh(u);\n    u->kept = kept;\n"
+     "    u->scr = scr;\n"),
+    ("kept: LSR shows them with data only", "model.c", "    if (shown->pe != 0u)\n",
+     "    if (u->rx_count == 0u)\n        shown = &no_errors;\n    if (shown->pe != 0u)\n"),
+    ("kept: 06 with data only", "model.c",
+     "    return u->overrun != 0u || any_error(shown_errors(u)) != 0u;",
+     "    return u->overrun != 0u || (u->rx_count != 0u && any_error(shown_errors(u)) != 0u);"),
+    ("kept: 06 without BI", "model.c",
+     "    return u->overrun != 0u || any_error(shown_errors(u)) != 0u;",
+     "    return (u->overrun | shown_errors(u)->pe | shown_errors(u)->fe) != 0u;"),
+    ("kept: a lost character adds to them", "model.c",
+     "    if (u->fifo_on != 0u)\n        return false;\n    u->rx_queue[0] = entry;",
+     "    if (u->fifo_on != 0u) {\n        u->kept.fe |= entry.errors.fe;\n        return false;\n    }\n"
+     "    u->rx_queue[0] = entry;"),
+    ("range: an entry's errors with FIFO off", "model.c",
+     "    return bytes <= 0xFFu && errors <= u->fifo_on && beyond == 0u;",
+     "    return bytes <= 0xFFu && errors <= 1u && beyond == 0u;"),
+    ("range: kept errors with FIFO on", "model.c", "<= (u->fifo_on != 0u ? 0u : 1u);", "<= 1u;"),
+    ("range: kept errors above 1", "model.c", "<= (u->fifo_on != 0u ? 0u : 1u);",
+     "<= (u->fifo_on != 0u ? 0u : 3u);"),
+    ("range: kept errors by their low byte", "model.c", "    return any_error(&u->kept) <=",
+     "    return (any_error(&u->kept) & 255u) <="),
+    ("range: kept BI needs FE", "model.c", "    return any_error(&u->kept) <=",
+     "    return u->kept.bi <= u->kept.fe && any_error(&u->kept) <="),
+    ("range: kept errors need data", "model.c", "    return any_error(&u->kept) <=",
+     "    return (u->rx_count != 0u || any_error(&u->kept) == 0u) && any_error(&u->kept) <="),
+
     # Lines.
+    ("a state without the kept errors taken", "calls.c", '{ "load", UART_STATE_PLACES, 0,',
+     '{ "load", UART_STATE_PLACES - 3u, 0,'),
     ("leading zeros taken", "calls.c", "(*first == '0' && at - first > 1) || ", ""),
     ("numbers above 32 bits taken", "calls.c", " || sum > UINT32_MAX)", ")"),
     ("ticks 0 taken", "calls.c", '{ "ticks", 1, 1, UINT32_MAX,', '{ "ticks", 1, 0, UINT32_MAX,'),

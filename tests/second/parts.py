@@ -1,28 +1,28 @@
-"""States and the part of each that is bad, as document 02, request b, says; 0 where none is.
+"""States and the part of each that is bad, as document 02, requests b and c, say; 0 where none is.
 
-The ranges of document 01 at their edges and just beyond, two parts broken together, numbers too
-wide for their places, and ranges that join two places, broken by a change of the earlier one.
+The ranges at their edges and just beyond, two parts broken together, numbers too wide for their
+places, ranges that join two places, broken by a change of the earlier one, and kept errors.
 """
 
-from itertools import combinations
+from itertools import combinations, product
 
 import states as st
-from states import (bases, clocked, in_character, put, with_fifo, with_frame, with_queued,
-                    with_received)
+from states import (bases, clocked, in_character, keep_errors, put, with_fifo, with_frame,
+                    with_queued, with_received)
 
 EDGE = {edge.name: edge for edge in st.EDGES}
 
-# Two edges of each part.
+# Edges of each part.
 PAIRED = {
     1: ("IER above 63", "k above divisor"),
     2: ("SIN above 1", "FIFO on above 1"),
     3: ("newest queued byte above 255", "transmit count above capacity"),
-    4: ("receiver state 3", "receive count above capacity"),
+    4: ("receiver state 3", "receive count above capacity", "kept FE with FIFO on"),
     5: ("OE above 1", "idle count above 769"),
 }
 
-# A place of each part that holds a byte.
-BYTES = (st.SCR, st.MODEM, st.TX, st.RX, st.CHANGES)
+# Places that hold a byte, of each part.
+BYTES = (st.SCR, st.MODEM, st.TX, st.RX, st.CHANGES, st.KEPT_BI)
 
 
 def flow():
@@ -81,7 +81,8 @@ def unfit():
             s, part = broken(names[1:])
             yield st.beyond_width(s, place), min(part, st.part_of(place))
     for low, high in combinations(BYTES, 2):
-        yield st.beyond_width(st.beyond_width(flow(), high), low), st.part_of(low)
+        s = st.beyond_width(st.beyond_width(flow(), high), low)
+        yield s, min(st.part_of(low), st.part_of(high))
     yield [st.BIGGEST] * st.PLACES, 1
 
 
@@ -105,6 +106,14 @@ def within_parts():
     yield 4, in_character(clocked(), 24, 0x03, 1), put(st.P, 23)
     yield 4, in_character(clocked(), 24, 0x03), put(st.RX_STATE, st.RX_IDLE)
     yield 4, in_character(clocked(), 24, 0x03), put(st.RX_STATE, st.RX_MARK)
+
+
+def of_errors():
+    """The same of errors, changed from FIFO on to off and back: part 4."""
+    for flags in ((1, 0, 0), (0, 1, 0), (0, 0, 1), (1, 1, 1)):
+        yield 4, with_received(with_fifo(clocked()), 1, ((0, flags),)), put(st.FIFO_ON, 0)
+        for count in (0, 1):
+            yield 4, keep_errors(with_received(clocked(), count), *flags), put(st.FIFO_ON, 1)
 
 
 def of_capacity():
@@ -151,7 +160,7 @@ def of_hold():
 
 
 def joined():
-    for table in (within_parts, of_capacity, of_latches, of_hold):
+    for table in (within_parts, of_errors, of_capacity, of_latches, of_hold):
         for part, s, change in table():
             yield s, 0
             damaged = list(s)
@@ -159,6 +168,26 @@ def joined():
             yield damaged, part
 
 
+def kept():
+    """Any of the kept errors with FIFO off, none with FIFO on; an entry's own the other way."""
+    for flags in product((0, 1), repeat=3):
+        for count in (0, 1):
+            yield keep_errors(with_received(clocked(), count), *flags), 0
+            s = keep_errors(with_received(with_fifo(clocked()), count), *flags)
+            yield s, 4 if any(flags) else 0
+        yield with_received(with_fifo(clocked()), 1, ((0, flags),)), 0
+        s = with_received(clocked(), 1)
+        put(st.RX + 1, *flags)(s)
+        yield s, 4 if any(flags) else 0
+        yield keep_errors(list(s), *flags), 4 if any(flags) else 0
+    for place in range(st.KEPT, st.PLACES):
+        for number in (2, 255, 256, 257, 65536, st.BIGGEST):
+            yield with_numbers(clocked(), {place: number}), 4
+        yield with_numbers(clocked(), {place: 2, st.SIN: 2}), 2
+        yield with_numbers(clocked(), {place: 2, st.BYTE: 1}), 3
+        yield with_numbers(clocked(), {place: 2, st.OE: 2}), 4
+
+
 def cases():
-    for some in (edges, capacities, together, unfit, joined):
+    for some in (edges, capacities, together, unfit, joined, kept):
         yield from some()

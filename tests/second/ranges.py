@@ -1,6 +1,6 @@
 #!/usr/bin/env python3
-"""Checks the ranges of document 01, section "The state", against `calls`, and the
-part that document 02, request b, names for each.
+"""Checks the ranges of document 01, section "The state", and of document 02, request c,
+against `calls`, and the part that request b names for each.
 
 Every random state drawn by states.py has to be well formed, and so does what
 each of some steps makes of it. Every range has to be taken at its edge; beyond it

@@ -1,6 +1,6 @@
 #!/usr/bin/env python3
-"""Drives `calls` through the rules where document 01, or request b of document 02, leaves room, as
-they are read here.
+"""Drives `calls` through the rules where document 01, or request b or c of document 02, leaves room,
+as they are read here.
 
 Each part names the rule: a section of document 01, or what was decided beside it.
 
@@ -11,7 +11,7 @@ import sys
 
 import states as st
 from rows import Rows, clocked, fifo16
-from steps import FCR, IER, IIR, LCR, LSR, MCR, MSR, RBR, THR
+from steps import EVEN_PARITY, FCR, IER, IIR, LCR, LSR, MCR, MSR, RBR, THR
 
 
 def fifo(s, size64=0, code=0):
@@ -351,10 +351,8 @@ def pulses_21_to_25(r):
         r.read(LSR, lsr)
         r.read(RBR, 0)
 
-    s = clocked(0x1B)
-    st.set_entries(s, [(0x55, 1, 1, 1)])
-    r.start("in character mode byte and errors are replaced", s)
-    r.sin_bits(st.frame_bits(0x41, 0x1B))
+    r.start("in character mode the byte is replaced", received(clocked(), 1))
+    r.sin_bits(st.frame_bits(0x41, 0x03))
     r.read(LSR, 0x63)
     r.read(RBR, 0x41)
 
@@ -446,8 +444,111 @@ def wide_numbers(r):
         r.part(part)
 
 
+def kept(s, pe=0, fe=0, bi=0):
+    """Character mode with these errors kept, interrupt 06 enabled."""
+    s[st.IER] = 0x04
+    return st.keep_errors(s, pe, fe, bi)
+
+
+def kept_flags(r, *errors):
+    for i, flag in enumerate(errors):
+        r.call("state", st.KEPT + i, flag)
+
+
+def kept_until_lsr(r):
+    r.start("an error in character mode stays when RBR is read, and goes with LSR",
+            kept(clocked(EVEN_PARITY)))
+    r.sin_bits(st.with_flipped_parity(0x41, EVEN_PARITY))
+    r.call("state", st.RX + 1, 0)
+    kept_flags(r, 1, 0, 0)
+    r.read(RBR, 0x41)
+    r.read(IIR, 0x06)
+    r.read(LSR, 0x64)
+    r.read(IIR, 0x01)
+    r.read(LSR, 0x60)
+
+    r.start("with FIFO on an error goes with its entry", fifo(clocked(EVEN_PARITY)))
+    r.sin_bits(st.with_flipped_parity(0x41, EVEN_PARITY))
+    kept_flags(r, 0, 0, 0)
+    r.read(RBR, 0x41)
+    r.read(LSR, 0x60)
+
+    r.start("reset clears the kept errors", kept(clocked(), 1, 1, 1))
+    r.call("reset", 0, 0)
+    r.read(LSR, 0x60)
+
+
+def kept_by_each(r):
+    for errors, lsr in (((1, 0, 0), 0x65), ((0, 1, 0), 0x69), ((0, 0, 1), 0x71)):
+        r.start("a good character clears no kept error", kept(clocked(EVEN_PARITY), *errors))
+        r.sin_bits(st.frame_bits(0x41, EVEN_PARITY))
+        r.read(LSR, lsr)
+
+    s = kept(received(clocked(EVEN_PARITY), 1), 1, 0, 0)
+    r.start("a character that replaces another adds its errors to those that stand", s)
+    r.sin_bits(st.with_low_stop(0x41, EVEN_PARITY)[:-1])
+    r.call("sin 0", 0, 0)
+    r.ticks(9)
+    r.read(LSR, 0x6F)
+    r.read(RBR, 0x41)
+
+
+def kept_without_data(r):
+    for errors, lsr in (((1, 0, 0), 0x64), ((0, 1, 0), 0x68), ((0, 0, 1), 0x70), ((1, 1, 1), 0x7C)):
+        r.start("LSR and 06 follow the kept errors with nothing queued; LSR7 stays 0",
+                kept(clocked(), *errors))
+        r.part(0)
+        r.call("pins", 6, 1)
+        r.read(IIR, 0x06)
+        r.read(LSR, lsr)
+        r.call("pins", 6, 0)
+        r.read(LSR, 0x60)
+
+
+def kept_over_fcr(r):
+    s = kept(clocked(), 1, 0, 1)
+    s[st.OE] = 1
+    r.start("FIFO off when off clears no kept error", s)
+    r.write(FCR, 0xFE)
+    kept_flags(r, 1, 0, 1)
+    r.read(LSR, 0x76)
+    r.start("FIFO on clears the kept errors, and not OE", s)
+    r.write(FCR, 0x01)
+    kept_flags(r, 0, 0, 0)
+    r.read(LSR, 0x62)
+    r.start("the same with FIFO off again", s)
+    r.write(FCR, 0x01)
+    r.write(FCR, 0x00)
+    r.read(LSR, 0x62)
+    r.start("FIFO off keeps no error of an entry", received(fifo(clocked()), 1, (1, 1, 1)))
+    r.write(FCR, 0x00)
+    kept_flags(r, 0, 0, 0)
+    r.read(LSR, 0x60)
+
+
+def kept_ranges(r):
+    for count in (0, 1):
+        s = kept(received(clocked(), count), 0, 0, 1)
+        r.start("no tie among the kept errors or to the queue", s)
+        r.part(0)
+    for i in range(3):
+        s = clocked()
+        s[st.KEPT + i] = 2
+        r.start("each kept error is 0 or 1 with FIFO off: part 4", s)
+        r.part(4)
+        s = fifo(clocked())
+        s[st.KEPT + i] = 1
+        r.start("the kept errors are 0 with FIFO on: part 4", s)
+        r.part(4)
+        s = received(clocked(), 1)
+        s[st.RX + 1 + i] = 1
+        r.start("an entry's own errors are 0 with FIFO off: part 4", s)
+        r.part(4)
+
+
 ALL_PARTS = (state_1_to_7, ends_of_steps, numbers, registers_14_to_20, pulses_21_to_25,
-             narrow_places, part_beside_a_number, places_of_parts, joined_parts, wide_numbers)
+             narrow_places, part_beside_a_number, places_of_parts, joined_parts, wide_numbers,
+             kept_until_lsr, kept_by_each, kept_without_data, kept_over_fcr, kept_ranges)
 
 
 def main():

@@ -9,6 +9,7 @@ them with what they exercise. The answers are made by running `calls` on them.
 
 import os
 import sys
+from itertools import product
 
 import captures
 import parts
@@ -16,9 +17,10 @@ import readings
 import rows
 import states as st
 from recorder import utr
-from states import (BIGGEST, PLACES, bases, clocked, in_character, with_fifo, with_frame,
-                    with_queued, with_received)
-from steps import FCR, IER, IIR, LCR, LSR, MCR, MSR, RBR, SCR, THR, Lines
+from states import (BIGGEST, PLACES, bases, clocked, in_character, keep_errors, with_fifo,
+                    with_frame, with_queued, with_received)
+from steps import (EIGHT_BITS, EVEN_PARITY, FIVE_BITS, FCR, IER, IIR, LCR, LSR, MCR, MSR, RBR, SCR,
+                   THR, Lines)
 
 
 class Script(Lines):
@@ -710,7 +712,7 @@ def false_starts(q):
 
 
 def overruns(q):
-    # Character mode: the new character and its errors replace the old.
+    # Character mode: the new character replaces the old, its errors are added to those kept.
     for old in ((0, 0, 0), (1, 1, 1)):
         for bits in (st.frame_bits(0x42, 0x1B), [0] * 11, st.frame_bits(0x42, 0x1B)[:-1] + [0]):
             s = with_received(clocked(0x1B), 1, ((0, old),))
@@ -1112,6 +1114,9 @@ def refused_numbers(q):
           "state", "sin 1", "reset", "state")
 
 
+# The length of the longest `load` line.
+LOAD = len("load" + " 4294967295" * PLACES)
+
 BAD_LINES = (
     "", " ", "  ", "tick ", " tick", "tick  ", "tick 1", "tick\t", "\ttick", "tick\r", "\r",
     "Tick", "TICK", "tic", "ticktick", "tick tick", "ticks", "ticks ", "ticks 0", "ticks 00",
@@ -1133,13 +1138,13 @@ BAD_LINES = (
     "run 01", "run 1 1", "run " + "9" * 40,
     "load", "load ", "load 0", "load" + " 0" * (PLACES - 1), "load" + " 0" * (PLACES + 1), "load" + " 0" * PLACES + " ",
     "load " + " 0" * PLACES, "load" + " 0" * (PLACES - 1) + " 4294967296", "load" + " 0" * (PLACES - 1) + " 00",
-    "load" + " 0" * (PLACES - 1) + " x", "load" + " 0" * 100 + "  0" + " 0" * 247, "load 0,0",
+    "load" + " 0" * (PLACES - 1) + " x", "load" + " 0" * 100 + "  0" + " 0" * (PLACES - 101), "load 0,0",
     "LOAD" + " 0" * PLACES, "load" + "\t0" * PLACES,
     "replay", "replay ", "replay 65536", "replay 01", "replay 1 ", "replay 1  0", "replay 1 00",
     "replay 1 4294967296", "replay 1 x", "replay 1 -1", "replay -1", "Replay 1", "replay 1\t0",
     "help", "quit", "exit", "?", "#", "# fresh", ";", "tick;tick", "read 5;", "'tick'", "0", "1 2",
-    "x" * 3832, "x" * 3833, "x" * 3834, "x" * 9000, "tick" + " " * 5000, "level " + "0" * 5000,
-    " " * 4000, "load" + " 4294967295" * 349,
+    "x" * (LOAD - 1), "x" * LOAD, "x" * (LOAD + 1), "x" * 9000, "tick" + " " * 5000, "level " + "0" * 5000,
+    " " * 4000, "load" + " 4294967295" * (PLACES + 1), "load" + " 0" * st.KEPT,
 )
 
 
@@ -1354,7 +1359,7 @@ def replays(q):
     s = clocked()
     for sin in (2, 1):
         s[st.SIN] = sin
-        for version in (0, 2, 3, 256, 65535, 1):
+        for version in (0, 2, 3, 256, 257, 65535, 1):
             q.load(s)
             q.replay([0x60000000, LSR_00], version)
             q.replay([], version)
@@ -1385,6 +1390,173 @@ def bad_parts(q):
     q.raw("fresh", "part")
 
 
+ODD_PARITY = 0x0B
+
+# Format, data and parity samples, stop sample of a character with each set of errors it can have.
+ARRIVALS = (
+    (EVEN_PARITY, 0x41, 0, 1),  # none
+    (EVEN_PARITY, 0x41, 1, 1),  # PE
+    (EVEN_PARITY, 0x41, 0, 0),  # FE
+    (EVEN_PARITY, 0x41, 1, 0),  # PE, FE
+    (EVEN_PARITY, 0x00, 0, 0),  # FE, BI
+    (ODD_PARITY, 0x00, 0, 0),  # PE, FE, BI
+)
+ALL_FLAGS = tuple(product((0, 1), repeat=3))
+
+
+def character_mode(flags=(0, 0, 0), lcr=EVEN_PARITY, ier=0x05, count=0):
+    """Character mode with these errors kept."""
+    s = keep_errors(with_received(clocked(lcr), count), *flags)
+    s[st.IER] = ier
+    return s
+
+
+def kept_complaint(q):
+    """A driver that reads RBR before LSR: parity, framing error, break; then the other order."""
+    for lcr, bits in ((EVEN_PARITY, st.with_flipped_parity(0x41, EVEN_PARITY)),
+                      (EIGHT_BITS, st.with_low_stop(0x41, EIGHT_BITS)), (EIGHT_BITS, [0] * 10)):
+        for first, then in ((RBR, LSR), (LSR, RBR)):
+            for ier in (0x00, 0x04, 0x05):
+                q.fresh()
+                q.divisor(1, lcr)
+                q.write(IER, ier)
+                q.up_to_stop_sample(bits)
+                q.raw("state")
+                q.read(IIR, first, IIR, then, IIR, LSR, RBR)
+                q.raw("state")
+
+
+def kept_arrivals(q):
+    """Each character's errors on each set of kept ones, the queue empty or not."""
+    for i, flags in enumerate(ALL_FLAGS):
+        for j, (form, data, parity, stop) in enumerate(ARRIVALS):
+            s = character_mode(flags, form, count=(i + j) % 2)
+            in_character(s, st.stop_position(form) - 1, form, data, parity)
+            s[st.SIN] = stop
+            q.load(s)
+            q.ticks(1)
+            q.raw("state")
+            q.read(IIR, RBR, IIR, LSR, IIR, LSR)
+
+
+def kept_sequences(q):
+    """Characters on SIN one after the other, with reads of RBR or LSR between them or none."""
+    good = st.frame_bits(0x2A, EVEN_PARITY)
+    wrong = st.with_flipped_parity(0x41, EVEN_PARITY)
+    framing = st.with_low_stop(0x41, EVEN_PARITY) + [1] * 11
+    brk = [0] * 11 + [1]
+    for line in ((wrong, good), (framing, good), (brk, good), (good, wrong), (wrong, framing),
+                 (framing, wrong), (wrong, brk), (brk, wrong), (wrong, good, brk, good)):
+        for between in ((), (RBR,), (LSR,), (RBR, LSR), (LSR, RBR)):
+            q.load(character_mode())
+            for bits in line:
+                q.bits(bits)
+                q.read(*between)
+            q.raw("pins", "state")
+            q.read(IIR, RBR, IIR, LSR, IIR, LSR)
+
+
+def kept_looped(q):
+    """The same in loopback: the character begins on SIN and hears a frame of another format."""
+    for form, sent, byte in ((EVEN_PARITY, ODD_PARITY, 0x41), (0x02, EIGHT_BITS, 0x41),
+                             (FIVE_BITS, EIGHT_BITS, 0x00), (0x08, EIGHT_BITS, 0x00),
+                             (EIGHT_BITS, EIGHT_BITS, 0x5A)):
+        for flags in ((0, 0, 0), (1, 0, 0)):
+            q.load(character_mode(flags, form))
+            q.sin(0)
+            q.ticks(1)
+            q.sin(1)
+            q.write(LCR, sent)
+            q.write(MCR, 0x10)
+            q.write(THR, byte)
+            q.ticks(st.stop_position(form) - 1)
+            q.raw("state")
+            q.ticks(1)
+            q.raw("state")
+            q.read(IIR, RBR, IIR, LSR, LSR)
+            q.run(200)
+            q.read(RBR, LSR)
+
+
+def kept_clears(q):
+    """Which calls clear kept errors, and OE beside them."""
+    calls = ["read %d" % address for address in range(8)] + ["reset", "tick", "ticks 200", "run 9",
+             "sin 0", "modem 15", "pins", "forecast", "write 0 65", "write 1 4", "write 3 0",
+             "write 3 131", "write 4 16", "write 5 0", "write 5 28", "write 7 0", "read 8",
+             "write 2 256"]
+    calls += ["write 2 %d" % byte for byte in (0x00, 0x02, 0x06, 0xC8, 0xFE, 0x01, 0x03, 0x07, 0xE9)]
+    for i, call in enumerate(calls):
+        for lcr in (EIGHT_BITS, 0x80 | EIGHT_BITS):
+            s = character_mode((1, 1, 1) if i % 2 else ((1, 0, 0), (0, 1, 0), (0, 0, 1))[i % 3], lcr,
+                               count=i % 2)
+            s[st.OE] = 1
+            q.load(s)
+            q.raw(call, "part", "state")
+            q.read(IIR, LSR, IIR, LSR)
+
+
+def kept_fifo(q):
+    """FIFO on and off: its rule stays, a change clears, a character under way ends in the new mode."""
+    for flags in ALL_FLAGS[1:]:
+        s = with_received(with_fifo(clocked()), 2, ((0, flags), (1, flags)))
+        s[st.IER] = 0x04
+        q.load(s)
+        q.read(RBR, IIR, LSR, IIR, RBR, LSR)
+        q.load(s)
+        q.write(FCR, 0x00)
+        q.raw("state")
+        q.read(IIR, LSR)
+        q.write(FCR, 0x00, 0x01)
+        q.raw("state")
+        q.load(character_mode(flags))
+        q.write(FCR, 0x01, 0x00)
+        q.raw("state")
+        q.read(IIR, LSR)
+    for form, data, parity, stop in ARRIVALS:
+        for fifo_on in (0, 1):
+            s = character_mode(lcr=form)
+            s[st.FIFO_ON], s[st.SIN] = fifo_on, stop
+            in_character(s, st.stop_position(form) - 1, form, data, parity)
+            q.load(s)
+            q.write(FCR, fifo_on ^ 1)
+            q.ticks(1)
+            q.raw("part", "state")
+            q.read(IIR, RBR, IIR, LSR, IIR)
+            q.write(FCR, fifo_on)
+            q.read(LSR)
+
+
+def kept_interrupts(q):
+    """06 with nothing queued or data: enabled, not, later; LSR ends it, IIR and RBR don't."""
+    for flags in ALL_FLAGS:
+        for count in (0, 1):
+            for ier in (0x00, 0x01, 0x04, 0x0F):
+                s = character_mode(flags, ier=ier, count=count)
+                s[st.TX_LATCH], s[st.CHANGES] = 1, 2
+                q.load(s)
+                q.raw("pins")
+                q.read(IIR, RBR, IIR)
+                q.write(IER, 0x04)
+                q.read(IIR, LSR, IIR)
+
+
+def kept_replays(q):
+    """A differing read of LSR leaves the kept errors, an agreed one clears them, RBR's does not."""
+    for flags, lsr in (((1, 0, 0), 0x65), ((0, 1, 1), 0x79)):
+        for flip in (0, 0x04, 0x80):
+            q.load(character_mode(flags, count=1))
+            q.replay([utr.record(utr.READ, LSR, lsr ^ flip), utr.record(utr.READ, LSR, 0x61)])
+            q.load(character_mode(flags, count=1))
+            q.replay([utr.record(utr.READ, RBR, 0x30), utr.record(utr.WRITE, FCR, 0x06),
+                      utr.record(utr.READ, LSR, lsr ^ flip ^ 1), LSR_60])
+
+
+def kept_errors(q):
+    for subject in (kept_complaint, kept_arrivals, kept_sequences, kept_looped, kept_clears,
+                    kept_fifo, kept_interrupts, kept_replays):
+        subject(q)
+
+
 def random_states(seed, count):
     def subject(q):
         """Random states near boundaries, one step, the state it leaves."""
@@ -1411,7 +1583,7 @@ def random_states(seed, count):
 
 SUBJECTS = (
     ("rows", "the worked rows", worked_rows),
-    ("readings", "the rules where document 01 leaves room", read_rules),
+    ("readings", "the rules where the documents leave room", read_rules),
     ("rbr-thr", "RBR and THR", rbr_and_thr),
     ("ier-iir", "IER and IIR, the transmit-empty latch", ier_and_iir),
     ("fcr", "FCR: on, off, size, trigger, clears", fcr),
@@ -1448,6 +1620,7 @@ SUBJECTS = (
     ("states", "random states and one step", random_states(750, 80)),
     ("replay", "replay: outcomes, states, refusals, long lines", replays),
     ("part", "which part of a state is bad", bad_parts),
+    ("kept-errors", "errors kept apart in character mode", kept_errors),
 )
 
 

@@ -11,6 +11,9 @@
  * Parts: on states damaged in one or two places every call answers 1 and the
  * lower of their parts, and leaves the state as it was.
  *
+ * Kept errors: in character mode, which calls leave them and which clear them,
+ * and what characters with known errors add to them.
+ *
  * Replay: on random states and records, against the checked calls made one by
  * one, with differences and bad records put in.
  */
@@ -24,6 +27,7 @@
 #define FORECAST_STATES 4000u
 #define STEP_STATES 20000u
 #define DAMAGED_STATES 20000u
+#define KEPT_STATES 20000u
 #define JOURNEYS 200u
 #define JOURNEY_STEPS 2000u
 #define REPLAYS 20000u
@@ -127,6 +131,15 @@ static uint32_t draw_byte(void)
     return draw(2u) != 0u ? bytes[draw(6u)] : draw(256u);
 }
 
+static struct uart_errors draw_errors(void)
+{
+    struct uart_errors errors = { draw(8u) == 0u ? 1u : 0u, draw(8u) == 0u ? 1u : 0u,
+                                  draw(8u) == 0u ? 1u : 0u };
+
+    return errors;
+}
+
+/* Errors stand with their entries with FIFO on, and apart from them with FIFO off. */
 static void draw_queues(struct uart *u)
 {
     uint32_t size = u->fifo_on == 0u ? 1u : u->size64 != 0u ? 64u : 16u;
@@ -137,10 +150,11 @@ static void draw_queues(struct uart *u)
     u->rx_count = draw(size + 1u);
     for (uint32_t i = 0u; i < u->rx_count; i++) {
         u->rx_queue[i].byte = draw_byte();
-        u->rx_queue[i].pe = draw(8u) == 0u ? 1u : 0u;
-        u->rx_queue[i].fe = draw(8u) == 0u ? 1u : 0u;
-        u->rx_queue[i].bi = draw(8u) == 0u ? 1u : 0u;
+        if (u->fifo_on != 0u)
+            u->rx_queue[i].errors = draw_errors();
     }
+    if (u->fifo_on == 0u)
+        u->kept = draw_errors();
 }
 
 static void draw_frame(struct uart *u)
@@ -392,16 +406,16 @@ static void speed_up(struct uart *u)
 /* Puts a number beyond every range at a place of some part; returns the part. */
 static uint32_t damage(struct uart *u)
 {
-    /* The places of each part end here (document 02, request b). */
-    static const uint32_t ends[] = { 0u, 6u, 12u, 80u, 342u, UART_STATE_PLACES };
+    /* The places from one end to the next are of this part (document 02, requests b and c). */
+    static const uint32_t ends[] = { 0u, 6u, 12u, 80u, 342u, 348u, UART_STATE_PLACES };
+    static const uint32_t parts[] = { 1u, 2u, 3u, 4u, 5u, 4u };
     uint32_t places[UART_STATE_PLACES];
-    uint32_t part = 1u + draw(5u);
-    uint32_t first = ends[part - 1u];
+    uint32_t run = draw(6u);
 
     memcpy(places, u, sizeof places);
-    places[first + draw(ends[part] - first)] = 65536u + draw(1u << 30);
+    places[ends[run] + draw(ends[run + 1u] - ends[run])] = 65536u + draw(1u << 30);
     memcpy(u, places, sizeof places);
-    return part;
+    return parts[run];
 }
 
 /* Damages a state in one place or in two; returns the lower part. */
@@ -438,6 +452,86 @@ static void check_damaged(struct uart *u)
     check_no_value(u, uart_level(&v, draw(9u)), part);
     check_no_value(u, uart_run(&v, draw(9u)), part);
     check_unchanged(u, &v);
+}
+
+/* ---- Kept errors ---- */
+
+/* Errors as LSR shows them, in bits 2 to 4. */
+static uint32_t lsr_bits(struct uart_errors errors)
+{
+    return errors.pe << 2 | errors.fe << 3 | errors.bi << 4;
+}
+
+/* A state of character mode that hears SIN, a pulse each tick, no character begun. */
+static void draw_listening(struct uart *u)
+{
+    do
+        draw_state(u, 1u);
+    while (u->fifo_on != 0u || u->divisor != 1u);
+    u->mcr &= 0x0Fu;
+    u->lcr &= 0x7Fu;
+    u->rx_state = u->rx_position = u->rx_format = u->rx_data = u->rx_parity = 0u;
+}
+
+/* Puts a character on SIN up to its first stop sample; returns its errors. */
+static uint32_t hear_character(struct uart *u, uint32_t byte)
+{
+    uint8_t levels[192];
+    uint32_t width = 5u + (u->lcr & 3u);
+    uint32_t parity = (u->lcr >> 3) & 1u;
+    uint32_t stop = 16u * (1u + width + parity);
+    struct uart_errors errors = { draw(2u) * parity, draw(2u), 0u };
+
+    put_frame(levels, 0, byte, u->lcr & 63u);
+    if (errors.pe != 0u)
+        put_level(levels, stop - 16u, levels[stop - 1u] ^ 1u, 16u);
+    if (errors.fe != 0u)
+        put_level(levels, stop, 0u, 16u);
+    errors.bi = memchr(levels, 1, stop + 9u) == NULL ? 1u : 0u;
+    for (uint32_t i = 0u; i < stop + 9u; i++) {
+        uart_set_sin(u, levels[i]);
+        uart_tick(u);
+    }
+    return lsr_bits(errors);
+}
+
+/* A character adds its errors to the kept ones, whatever was queued, and has none of its own. */
+static void check_heard(struct uart *u)
+{
+    struct uart before = *u;
+    uint32_t byte = draw_byte();
+    uint32_t errors = hear_character(u, byte);
+
+    expect("kept errors", &before, lsr_bits(before.kept) | errors, lsr_bits(u->kept));
+    expect("entry's errors", &before, 0u, lsr_bits(u->rx_queue[0].errors));
+    expect("byte heard", &before, byte & ((32u << (u->lcr & 3u)) - 1u), u->rx_queue[0].byte);
+    expect("OE", &before, before.overrun | before.rx_count, u->overrun);
+    u->rx_state = u->rx_position = u->rx_format = u->rx_data = u->rx_parity = 0u;
+}
+
+/* What some calls make of kept errors: reads of RBR and FIFO off leave them, the others don't. */
+static void check_kept(struct uart *u)
+{
+    uint32_t kept;
+    struct uart v;
+
+    check_heard(u);
+    check_heard(u);
+    kept = lsr_bits(u->kept);
+    uart_read(u, 0u);
+    uart_write(u, 2u, (uint8_t)(draw(128u) << 1));
+    expect("errors left", u, kept, lsr_bits(u->kept));
+    v = *u;
+    uart_write(&v, 2u, (uint8_t)(draw(128u) << 1 | 1u));
+    expect("errors with FIFO on", u, 0u, uart_read(&v, 5u).byte & 0x9Cu);
+    v = *u;
+    uart_reset(&v);
+    expect("errors after reset", u, 0u, lsr_bits(v.kept));
+    uart_write(u, 1u, 0x04u);
+    expect("INTRPT", u, (kept | u->overrun) != 0u, uart_look(u).pins.intrpt);
+    expect("errors in LSR", u, kept, uart_read(u, 5u).byte & 0x9Du);
+    expect("errors in LSR again", u, 0u, uart_read(u, 5u).byte & 0x9Du);
+    expect("INTRPT after LSR", u, 0u, uart_look(u).pins.intrpt);
 }
 
 /* ---- Replay ---- */
@@ -574,6 +668,11 @@ int main(void)
         check_damaged(&u);
     }
     printf("parts: %u damaged states refused with their part\n", DAMAGED_STATES);
+    for (uint32_t i = 0u; i < KEPT_STATES; i++) {
+        draw_listening(&u);
+        check_kept(&u);
+    }
+    printf("kept errors: %u states of character mode\n", KEPT_STATES);
     for (uint32_t i = 0u; i < REPLAYS; i++) {
         draw_state(&u, 5u);
         check_replays(&u);

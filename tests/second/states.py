@@ -2,8 +2,8 @@
 
 Holds the names of the places, the few formulas of document 01 needed to build
 well-formed states, a random drawing of them that favours boundaries, and the
-edge of each range of document 01, section "The state", with the part of the state
-it counts for (document 02, request b).
+edge of each range of document 01, section "The state", and of document 02, request
+c, with the part of the state it counts for (request b).
 """
 
 import random
@@ -18,7 +18,9 @@ L, BYTE, FORMAT = range(77, 80)
 RX_COUNT, RX = 80, 81
 RX_STATE, P, RX_FORMAT, RX_DATA, RX_PARITY = range(337, 342)
 TX_LATCH, OE, TIMEOUT, IDLE, CHANGES, HOLD = range(342, 348)
-PLACES = HOLD + 1
+KEPT = KEPT_PE = 348
+KEPT_FE, KEPT_BI = 349, 350
+PLACES = KEPT_BI + 1
 
 # The places outside the two queues.
 SINGLES = tuple(range(0, 13)) + (L, BYTE, FORMAT, RX_COUNT) + tuple(range(RX_STATE, PLACES))
@@ -29,14 +31,14 @@ QUEUE_ENDS = (TX, TX + 63, RX, RX + 1, RX + 2, RX + 3, RX + 252, RX + 255)
 # The places whose numbers go beyond a byte.
 WORDS = (DIVISOR, K, IDLE)
 
-# The last place of each part, from part 1 on.
+# The last place of each part, from part 1 on; the kept flags behind them are of part 4.
 PART_ENDS = (K, SIN, FORMAT, RX_PARITY, HOLD)
 PARTS = range(1, len(PART_ENDS) + 1)
 
 
 def part_of(place):
     """The part that a number out of a place's range counts for."""
-    return 1 + bisect_left(PART_ENDS, place)
+    return 4 if place >= KEPT else 1 + bisect_left(PART_ENDS, place)
 
 
 RX_IDLE, RX_MARK, RX_CHARACTER = 0, 1, 2
@@ -85,6 +87,16 @@ def frame_bits(byte, form):
     if parity_bits(form):
         bits.append(parity_bit(byte, form))
     return bits + [1]
+
+
+def with_flipped_parity(byte, form):
+    bits = frame_bits(byte, form)
+    bits[-2] ^= 1
+    return bits
+
+
+def with_low_stop(byte, form):
+    return frame_bits(byte, form)[:-1] + [0]
 
 
 def stop_position(form):
@@ -154,8 +166,26 @@ def set_entries(s, entries):
     s[RX:RX + 4 * QUEUE] = flat + [0] * (4 * QUEUE - len(flat))
 
 
+def keep_errors(s, pe, fe, bi):
+    """Adds errors to the kept ones."""
+    s[KEPT_PE] |= pe
+    s[KEPT_FE] |= fe
+    s[KEPT_BI] |= bi
+    return s
+
+
+def settle_errors(s):
+    """With FIFO on none is kept, with FIFO off they are kept apart from the entry."""
+    if s[FIFO_ON]:
+        s[KEPT:] = 0, 0, 0
+    else:
+        keep_errors(s, *s[RX + 1:RX + 4])
+        s[RX + 1:RX + 4] = 0, 0, 0
+
+
 def settle(s):
-    """Applies the rules that end each step, so that the state is well formed."""
+    """Makes a state well formed: its errors, and the rules that end each step."""
+    settle_errors(s)
     if autoflow(s):
         s[CHANGES] &= ~1
     if not auto_rts(s) or s[RX_COUNT] == 0:
@@ -177,7 +207,7 @@ def with_fifo(s, size64=0, code=0):
 
 
 def with_received(s, count, errors=()):
-    """Errors: a place of the queue and its (PE, FE, BI)."""
+    """Errors: a place of the queue and its (PE, FE, BI), kept apart in character mode."""
     entries = [(0x30 + i, 0, 0, 0) for i in range(count)]
     for place, bits in errors:
         entries[place] = (entries[place][0],) + bits
@@ -261,6 +291,12 @@ def random_queues(s, pick):
     set_entries(s, entries)
 
 
+def random_kept(s, pick):
+    """In character mode half of the states keep errors, beside those of the entry drawn."""
+    if not s[FIFO_ON] and pick(2):
+        keep_errors(s, *(pick(2) for _ in range(3)))
+
+
 def random_frame(s, pick):
     if not pick(3):
         return
@@ -330,6 +366,7 @@ def random_state(pick):
     random_frame(s, pick)
     random_receiver(s, pick)
     random_latches(s, pick)
+    random_kept(s, pick)
     return settle(s)
 
 
@@ -416,6 +453,14 @@ def fifo_without_data(s):
 
 def character_mode_with_data(s):
     return not s[FIFO_ON] and s[RX_COUNT]
+
+
+def character_mode(s):
+    return not s[FIFO_ON]
+
+
+def fifo_is_on(s):
+    return s[FIFO_ON]
 
 
 def k_above_divisor(more):
@@ -535,13 +580,7 @@ RECEIVE = (
     ("receive count above capacity", receive_count_above(0), receive_count_above(1)),
     ("receive count 65", receive_count_above(0), put(RX_COUNT, 65)),
     ("received byte above 255", *above(RX, 255), has_received),
-    ("PE above 1", *above(RX + 1, 1), has_received),
-    ("FE above 1", *above(RX + 2, 1), has_received),
-    ("BI above 1", *above(RX + 3, 1), has_received),
     ("last received byte above 255", *newest_entry(0, 255), has_received),
-    ("last PE above 1", *newest_entry(1, 1), has_received),
-    ("last FE above 1", *newest_entry(2, 1), has_received),
-    ("last BI above 1", *newest_entry(3, 1), has_received),
     ("receiver state 3", *above(RX_STATE, RX_CHARACTER)),
     ("position outside a character", as_it_is, put(P, 1), not_in_character),
     ("format outside a character", as_it_is, put(RX_FORMAT, 1), not_in_character),
@@ -583,8 +622,15 @@ LATCHES = (
 )
 
 
-def samples_and_places():
-    """Each data sample before its position, each number of an entry beyond the receive count."""
+def errors_and_samples():
+    """Each flag, in the queue and kept; each data sample before its position; each number of an entry
+    beyond the receive count."""
+    for i, name in enumerate(("PE", "FE", "BI")):
+        yield "%s above 1" % name, *above(RX + 1 + i, 1), fifo_with_data
+        yield "last %s above 1" % name, *newest_entry(1 + i, 1), fifo_with_data
+        yield "%s with FIFO off" % name, as_it_is, put(RX + 1 + i, 1), character_mode_with_data
+        yield "kept %s above 1" % name, *above(KEPT + i, 1), character_mode
+        yield "kept %s with FIFO on" % name, as_it_is, put(KEPT + i, 1), fifo_is_on
     for i in range(8):
         yield ("data sample %d too early" % i, character(0x03, 24 + 16 * i, 1 << i),
                character(0x03, 23 + 16 * i, 1 << i))
@@ -597,14 +643,14 @@ def samples_and_places():
 
 EDGES = [Edge(part, *row)
          for part, rows in ((1, REGISTERS), (2, FIFO_AND_PINS), (3, TRANSMIT), (4, RECEIVE),
-                            (5, LATCHES), (4, samples_and_places()))
+                            (5, LATCHES), (4, errors_and_samples()))
          for row in rows]
 
 
 def bases():
     """Well-formed states to damage; each edge is had by one of them at least."""
     plain = clocked(0x03, 12, 7)
-    with_frame(with_received(plain, 1), 33)
+    with_frame(with_received(plain, 1, ((0, (0, 1, 0)),)), 33)
     plain[SCR] = 0x77
 
     flow = with_fifo(clocked(0x1B, 1), 0, 1)
