@@ -119,4 +119,7 @@ static void device_places(const struct device *d, uint32_t *p)
     *p++ = s->latches.idle;
     *p++ = s->latches.changes;
     *p++ = s->latches.hold;
+    *p++ = s->kept.pe;
+    *p++ = s->kept.fe;
+    *p++ = s->kept.bi;
 }

@@ -66,9 +66,10 @@ pub fn after_read(s: State) -> State
     ensures { λ r. ⌜ r ≡ lsrRead s .state ⌝ }
 {
     let rx = clear_errors(s.rx);
+    let kept = queue::entries::no_errors();
     let mut next = s;
     next.rx = rx;
     next.latches.overrun = 0;
-    next.kept = queue::entries::no_errors();
+    next.kept = kept;
     next
 }
