@@ -48,7 +48,11 @@ returns-2 : tie.Need-returns-2 Inv-loop μ-loop
 returns-2 c = (λ e. absurd (false≢true (sym (not-true _ (c .if2 .taken)) ∙ e)), c .before .before .before .before .before .loop .inv .1 .1 .1 .1 .inside)
 
 answer-some-requires : tie.Need-answer-some-requires Inv-loop μ-loop
-answer-some-requires c κs = search needs
+answer-some-requires c κs =
+    let turn = c .before .before .before .before .before .before .before .before in
+    let i = turn .loop .inv in
+    let asked = turn .before .before .before .before .before .pre in
+    (i .1 .1 .1 .1 .inside, (i .0 ∙ asked .0, i .1 .0 ∙ asked .1 .0))
 
 sub-turns : tie.Need-sub-turns Inv-loop μ-loop
 sub-turns c = search needs
