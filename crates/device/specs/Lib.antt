@@ -1,24 +1,26 @@
 -- The manual. The two readers read this folder against the sheet, in this order: what the state is and what the
--- settings mean, the line, the ranges of the state, the registers, the pins, and the calls.
+-- settings mean, the line with RBR and LSR, which say where a received character and its errors go, the ranges of the
+-- state, the other registers, the pins, and the calls.
 -- A file uses earlier ones alone.
 pub mod State
 pub mod Fifo
 pub mod Modem
 pub mod Autoflow
 pub mod Transmitter
+pub mod Rbr
+pub mod Lsr
 pub mod Receiver
 pub mod Idle
 pub mod Tick
 pub mod Ranges
 pub mod Parts
-pub mod Rbr
 pub mod Thr
 pub mod Ier
 pub mod Iir
 pub mod Fcr
+pub mod KeptErrors
 pub mod Lcr
 pub mod Divisor
-pub mod Lsr
 pub mod Msr
 pub mod Mcr
 pub mod Scr
