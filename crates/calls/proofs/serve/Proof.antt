@@ -3,6 +3,7 @@ use Rattle.command.specs.Command.{longestLine}
 use Prim.Native.Nat.{suc, _≤_}
 use mathlib.Core.Path.{_≡_, _∙_}
 use lib.ListN.{length}
+use native.Mathlib.Omega.{arith}
 use borrow.Author.Needs.{needs}
 use Rattle.calls.proofs.serve.Statement.{statement}
 use Rattle.calls.proofs.serve.Tie as tie
@@ -35,7 +36,11 @@ returns : tie.Need-returns Inv-loop μ-loop
 returns c = tt
 
 turn-requires : tie.Need-turn-requires Inv-loop μ-loop
-turn-requires c κs = search needs
+turn-requires c κs =
+    let turn = c .before .before .before .before .before .before .before in
+    let i = turn .loop .inv in
+    let asked = turn .before .before .before .before .before .before .pre in
+    (i .1 .1 .1 .1, (i .1 .1 .1 .0 ∙ asked .0, (i .0 ∙ asked .1 .0, (i .1 .0 ∙ asked .1 .1 .0, omega (arith, i .1 .1 .0, asked .1 .1 .1)))))
 
 sub-turns : tie.Need-sub-turns Inv-loop μ-loop
 sub-turns c = search needs
