@@ -6,7 +6,7 @@ use queue::EntryQueue;
 use queue::Errors;
 ghost use mathlib.Core.Path.{_≡_};
 ghost use mathlib.Core.Bool.{true, false};
-ghost use Rattle.queue.specs.Queue.{noErrors};
+ghost use Rattle.queue.specs.Queue.{noErrors, anyError};
 ghost use Rattle.device.specs.Lsr.{shownErrors, lsr as «lsr-of», clearErrors, lsrRead};
 
 // The errors that show: with FIFO on those of the oldest entry, in character mode the kept ones.
@@ -17,6 +17,13 @@ pub fn shown_errors(s: State) -> Errors
         return queue::entries::errors_of(rbr::oldest(s.rx));
     }
     s.kept
+}
+
+// Whether PE, FE or BI shows.
+pub fn shows_error(s: State) -> bool
+    ensures { λ r. ⌜ r ≡ anyError (shownErrors s) ⌝ }
+{
+    queue::entries::any_set(shown_errors(s))
 }
 
 // The register, its lower and its upper four bits.

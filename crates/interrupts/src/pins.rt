@@ -4,6 +4,7 @@ use device::Frame;
 use device::Outputs;
 use device::State;
 use device::modem;
+use fifos::lsr;
 use sheet::bits;
 ghost use mathlib.Core.Path.{_≡_};
 ghost use mathlib.Core.Bool.{cond, not, _&&_};
@@ -48,7 +49,7 @@ pub fn outputs(s: State) -> Outputs
     let r = s.registers;
     let loopback = modem::loopback(r);
     let sout = sout(loopback, r.lcr, s.frame);
-    let intrpt = flag::bit(iir::interrupt_code(s) != bits::IIR_NO_INT);
+    let intrpt = flag::bit(iir::interrupt_code(s, lsr::shows_error(s)) != bits::IIR_NO_INT);
     if !loopback {
         return outside(r.mcr, s.latches.hold, sout, intrpt);
     }

@@ -14,6 +14,7 @@ ghost use mathlib.Core.Path.{_≡_};
 ghost use mathlib.Core.Bool.{cond, _&&_};
 ghost use Prim.Native.Nat.{_^_, _≤_, min};
 ghost use lib.Dec.{ltb, eqb};
+ghost use Rattle.queue.specs.Queue.{errorsWithin, entriesWithin};
 ghost use Rattle.flag.specs.Flag.{every, implies as «implies-of»};
 ghost use Rattle.device.specs.Ranges.{transmitRanges, receiveRanges, characterRanges, outsideRanges};
 
@@ -101,11 +102,25 @@ fn receiver_in_range(v: Receiver) -> bool
     outside_in_range(v)
 }
 
-// One of two numbers: the first with FIFO on, the other in character mode.
-fn by_mode(on: bool, fifo: u8, character: u8) -> u8
-    ensures { λ r. ⌜ r ≡ cond on fifo character ⌝ }
+// The errors of an entry are 0 or 1 with FIFO on, else 0. Each limit is a constant where it is tested,
+// so that the compiler looks at many places at once.
+fn entries_in_range(q: EntryQueue, on: bool) -> bool
+    ensures { λ r. ⌜ r ≡ entriesWithin (cond on 1 0) q ⌝ }
 {
-    if on { fifo } else { character }
+    if on {
+        return queue::entries::entries_within(q, 1);
+    }
+    queue::entries::entries_within(q, 0)
+}
+
+// The kept errors are 0 with FIFO on, else 0 or 1.
+fn kept_in_range(k: Errors, on: bool) -> bool
+    ensures { λ r. ⌜ r ≡ errorsWithin (cond on 0 1) k ⌝ }
+{
+    if on {
+        return queue::entries::errors_within(k, 0);
+    }
+    queue::entries::errors_within(k, 1)
 }
 
 // Part 4: receive queue, receiver and kept errors.
@@ -118,9 +133,9 @@ pub fn receive_in_range(f: FifoControl, q: EntryQueue, v: Receiver, k: Errors) -
         both(
             queue::entries::rest_is_zero(q),
             both(
-                queue::entries::entries_within(q, by_mode(on, 1, 0)),
+                entries_in_range(q, on),
                 both(
-                    queue::entries::errors_within(k, by_mode(on, 0, 1)),
+                    kept_in_range(k, on),
                     both(v.phase <= device::CHARACTER, receiver_in_range(v)),
                 ),
             ),

@@ -10,17 +10,11 @@ capacity-requires c κs = search needs
 rest-is-zero-requires : tie.Need-rest-is-zero-requires
 rest-is-zero-requires c κs = search needs
 
-by-mode-requires : tie.Need-by-mode-requires
-by-mode-requires c κs = search needs
+entries-in-range-requires : tie.Need-entries-in-range-requires
+entries-in-range-requires c κs = search needs
 
-entries-within-requires : tie.Need-entries-within-requires
-entries-within-requires c κs = search needs
-
-by-mode-requires-2 : tie.Need-by-mode-requires-2
-by-mode-requires-2 c κs = search needs
-
-errors-within-requires : tie.Need-errors-within-requires
-errors-within-requires c κs = search needs
+kept-in-range-requires : tie.Need-kept-in-range-requires
+kept-in-range-requires c κs = search needs
 
 receiver-in-range-requires : tie.Need-receiver-in-range-requires
 receiver-in-range-requires c κs = search needs
@@ -45,9 +39,8 @@ returns c =
     let both = c .before .before .before .before in
     let receiver = both .before in
     let kept = receiver .before .before in
-    let entries = kept .before .before in
-    let rest = entries .before .before in
-    rw (c .both5 .ensures, c .before .both4 .ensures, c .before .before .both3 .ensures, c .before .before .before .both2 .ensures, both .both .ensures, receiver .receiver-in-range .ensures, kept .errors-within .ensures, kept .before .by-mode2 .ensures, entries .entries-within .ensures, entries .before .by-mode .ensures, rest .rest-is-zero .ensures, rest .before .before .capacity .ensures .0)
+    let rest = kept .before .before in
+    rw (c .both5 .ensures, c .before .both4 .ensures, c .before .before .both3 .ensures, c .before .before .before .both2 .ensures, both .both .ensures, receiver .receiver-in-range .ensures, kept .kept-in-range .ensures, kept .before .entries-in-range .ensures, rest .rest-is-zero .ensures, rest .before .before .capacity .ensures .0)
     (simp and-true)
 
 pub receive-in-range-spec : {M : Type 1} → statement M
@@ -56,10 +49,8 @@ receive-in-range-spec =
     (tie.spec
     capacity-requires
     rest-is-zero-requires
-    by-mode-requires
-    entries-within-requires
-    by-mode-requires-2
-    errors-within-requires
+    entries-in-range-requires
+    kept-in-range-requires
     receiver-in-range-requires
     both-requires
     both-requires-2

@@ -26,8 +26,7 @@ returns c =
         line .both .ensures,
         line .before .either .ensures,
         line .before .before .before .has .ensures,
-        line .before .before .before .before .any-set .ensures,
-        line .before .before .before .before .before .shown-errors .ensures,
+        line .before .before .before .before .before .pre,
       ),
       c .first-of .ensures .1,
     )
@@ -37,5 +36,4 @@ interrupt-code-spec =
     tie.close
     (tie.spec (λ c κs. search needs) (λ c κs. search needs) (λ c κs. search needs) (λ c κs. search needs)
     (λ c κs. search needs) (λ c κs. search needs) (λ c κs. search needs) (λ c κs. search needs) (λ c κs. search needs)
-    (λ c κs. search needs) (λ c κs. search needs) (λ c κs. search needs) (λ c κs. search needs) (λ c κs. search needs)
-    (λ c κs. search needs) returns)
+    (λ c κs. search needs) (λ c κs. search needs) (λ c κs. search needs) (λ c κs. search needs) returns)

@@ -12,4 +12,6 @@ unfolding iirRead
 returns c = rw (c .fifo-code .ensures .0, c .before .interrupt-code .ensures .0)
 
 pub value-spec : {M : Type 1} → statement M
-value-spec = tie.close (tie.spec (λ c κs. search needs) (λ c κs. search needs) add-result returns)
+value-spec =
+    tie.close
+    (tie.spec (λ c κs. search needs) (λ c κs. c .shows-error .ensures) (λ c κs. search needs) add-result returns)

@@ -10,7 +10,7 @@ returns : tie.Need-returns
 unfolding intrpt outputs
 returns c =
     let code = c .before .before in
-    let start = code .before .before in
+    let start = code .before .before .before in
     let off = not-true (start .before .loopback .result) (c .before .if1 .taken) in
     simp (
       sym (start .before .loopback .ensures) ∙ off,
@@ -25,7 +25,7 @@ returns-2 : tie.Need-returns-2
 unfolding intrpt outputs
 returns-2 c =
     let code = c .before in
-    let start = code .before .before in
+    let start = code .before .before .before in
     let on = not-false (start .before .loopback .result) (c .if1 .left) in
     simp (
       sym (start .before .loopback .ensures) ∙ on,
@@ -38,5 +38,5 @@ returns-2 c =
 pub outputs-spec : {M : Type 1} → statement M
 outputs-spec =
     tie.close
-    (tie.spec (λ c κs. search needs) (λ c κs. search needs) (λ c κs. search needs) (λ c κs. search needs)
-    (λ c κs. search needs) returns returns-2)
+    (tie.spec (λ c κs. search needs) (λ c κs. search needs) (λ c κs. search needs) (λ c κs. c .shows-error .ensures)
+    (λ c κs. search needs) (λ c κs. search needs) returns returns-2)
