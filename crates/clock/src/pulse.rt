@@ -1,8 +1,8 @@
 // The whole pulse.
 use device::State;
-use device::autoflow;
 use line::idle;
 use line::transmitter;
+use settings::autoflow;
 ghost use mathlib.Core.Path.{_≡_};
 ghost use Rattle.device.specs.Autoflow.{settled};
 ghost use Rattle.device.specs.Tick.{pulsed};

@@ -12,7 +12,7 @@ use Rattle.device.specs.declared.Reading.{Reading}
 use Rattle.device.specs.declared.State.{State}
 use Rattle.device.specs.State.{withFifo, withKept, resetState, freshOf}
 use Rattle.device.specs.Rbr.{rbrRead}
-use Rattle.device.specs.Lsr.{keptAfter, shownErrors, lsrRead}
+use Rattle.device.specs.Lsr.{entering, keptAfter, shownErrors, lsrRead}
 use Rattle.device.specs.Receiver.{withEntry}
 use Rattle.device.specs.Fcr.{fifoAfter, turned, switched, clearReceive, clearTransmit, fcrWrite}
 use Rattle.device.specs.KeptErrors.{KeptErrors}
@@ -48,10 +48,11 @@ module _ (s : State) (off : on (s .fifo .enabled) ≡ false) where
       ∙ ap (λ (c : Bool). cond c noErrors (s .kept)) (turned-by b)
 
   pub kept-errors : KeptErrors s
-  unfolding shownErrors withEntry keptAfter lsrRead resetState freshOf
+  unfolding entering shownErrors withEntry keptAfter lsrRead resetState freshOf
   kept-errors =
       record {
         show = rw off;
+        entry-none = λ e. rw off;
         pe-set = λ e. rw off (set-either (on (e .pe)) (s .kept .pe));
         fe-set = λ e. rw off (set-either (on (e .fe)) (s .kept .fe));
         bi-set = λ e. rw off (set-either (on (e .bi)) (s .kept .bi));

@@ -2,11 +2,6 @@
 // in specs/, a file for each register or unit; this crate is the manual that the others implement.
 //
 // Every field is an unsigned number, so every bit pattern is a state: well formed, or refused.
-pub mod autoflow;
-pub mod errors;
-pub mod fifo;
-pub mod modem;
-pub mod sampling;
 
 use queue::ByteQueue;
 use queue::EntryQueue;

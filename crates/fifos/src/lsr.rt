@@ -1,9 +1,9 @@
 // LSR, line status register.
 use crate::rbr;
 use device::State;
-use device::errors;
 use queue::EntryQueue;
 use queue::Errors;
+use settings::errors;
 ghost use mathlib.Core.Path.{_≡_};
 ghost use mathlib.Core.Bool.{true, false};
 ghost use Rattle.queue.specs.Queue.{noErrors, anyError};

@@ -7,7 +7,7 @@ ghost use Rattle.device.specs.Thr.{thrWrite};
 pub fn write(s: State, b: u8) -> State
     ensures { λ r. ⌜ r ≡ thrWrite s b ⌝ }
 {
-    let tx = queue::bytes::put(s.tx, device::fifo::capacity(s.fifo), b);
+    let tx = queue::bytes::put(s.tx, settings::fifo::capacity(s.fifo), b);
     let latches = device::with_empty(s.latches, 0);
     let mut next = s;
     next.tx = tx;

@@ -3,7 +3,7 @@
 pub mod formula;
 
 use device::State;
-use device::autoflow;
+use settings::autoflow;
 use sheet::answer;
 use sheet::limits;
 ghost use mathlib.Core.Path.{_≡_};

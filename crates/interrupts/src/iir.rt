@@ -20,7 +20,7 @@ fn enough(f: FifoControl, count: u32) -> bool
     if f.enabled != 1 {
         return 0 < count;
     }
-    device::fifo::trigger_level(f) <= count
+    settings::fifo::trigger_level(f) <= count
 }
 
 // The code of the first cause that applies.

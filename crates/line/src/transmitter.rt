@@ -4,7 +4,7 @@ use device::Frame;
 use device::Inputs;
 use device::Registers;
 use device::State;
-use device::autoflow;
+use settings::autoflow;
 use sheet::limits;
 ghost use mathlib.Core.Path.{_≡_};
 ghost use mathlib.Core.Bool.{not, _&&_};

@@ -2,13 +2,13 @@
 use device::FifoControl;
 use device::Frame;
 use device::Receiver;
-use device::fifo;
-use device::sampling;
 use flag::both;
 use flag::implies;
 use queue::ByteQueue;
 use queue::EntryQueue;
 use queue::Errors;
+use settings::fifo;
+use settings::sampling;
 use sheet::limits;
 ghost use mathlib.Core.Path.{_≡_};
 ghost use mathlib.Core.Bool.{cond, _&&_};

@@ -114,7 +114,7 @@ pub fn transmit(s: State, w: u32) -> Queued
     ensures { λ r. ⌜ r ≡ record { tx = stepOf s w .state .tx; latches = stepOf s w .state .latches } ⌝ }
 {
     Queued {
-        tx: queue::bytes::put(s.tx, device::fifo::capacity(s.fifo), record::byte(w)),
+        tx: queue::bytes::put(s.tx, settings::fifo::capacity(s.fifo), record::byte(w)),
         latches: device::with_empty(s.latches, 0),
     }
 }

@@ -3,7 +3,7 @@ use crate::msr;
 use crate::numbers_of;
 use device::Numbers;
 use device::State;
-use device::modem;
+use settings::modem;
 use sheet::limits;
 ghost use mathlib.Core.Path.{_≡_};
 ghost use Rattle.device.specs.Mcr.{mcrWrite};

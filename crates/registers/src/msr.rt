@@ -1,7 +1,7 @@
 // MSR, modem status register.
 use device::Latches;
 use device::State;
-use device::modem;
+use settings::modem;
 ghost use mathlib.Core.Path.{_≡_};
 ghost use mathlib.Core.Bool.{false};
 ghost use Prim.Native.Nat.{_≤_};
