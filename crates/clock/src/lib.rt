@@ -1,8 +1,8 @@
 // The clock: the one loop over ticks, and the pulse that happens when k comes to 0.
 //
 // `quiet` has the common pulse, in which no byte is loaded and no character ends: numbers alone.
-// `pulse` has the whole one, on the state. `advance` goes over ticks with the numbers in locals and
-// the queues left where they are; its contract is that many calls of tick.
+// `pulse` has the whole one, on the state. `advance` goes from pulse to pulse with the numbers in locals
+// and the queues left where they are; its contract is that many calls of tick.
 pub mod pulse;
 pub mod quiet;
 
@@ -48,8 +48,9 @@ fn assemble(s: State, k: u32, x: Frame, v: Receiver, l: Latches) -> State
     next
 }
 
-// The state n ticks later. The numbers that a tick changes go round in locals; the queues are
-// touched only where a byte is loaded or a character ends.
+// The state n ticks later, from pulse to pulse: between two of them k alone falls. The numbers that a
+// pulse changes go round in locals; the queues are touched only where a byte is loaded or a character
+// ends.
 pub fn advance(s: State, n: u32) -> State
     requires { ⌜ wellFormed s ≡ true ⌝ }
     ensures { λ r. ⌜ r ≡ ticksOf n s ⌝ }
@@ -64,13 +65,9 @@ pub fn advance(s: State, n: u32) -> State
     let mut x = s.frame;
     let mut v = s.receiver;
     let mut l = s.latches;
-    let mut i: u32 = 0;
-    while i < n {
-        i += 1;
-        if 1 < k {
-            k -= 1;
-            continue;
-        }
+    let mut left = n;
+    while k <= left {
+        left -= k;
         k = divisor;
         let q = quiet::quiet_pulse(c, x, v, l);
         if q.quiet {
@@ -85,5 +82,5 @@ pub fn advance(s: State, n: u32) -> State
         v = t.receiver;
         l = t.latches;
     }
-    assemble(t, k, x, v, l)
+    assemble(t, k - left, x, v, l)
 }

@@ -1,6 +1,6 @@
 -- The loops over a queue's places, over the element, the filler and the number of places: for each a record of what holds
 -- at place i, what a turn does and what the loop comes to.
-use Prim.Native.Nat.{ℕ, _+_, _≤_, _<_, min}
+use Prim.Native.Nat.{ℕ, _+_, _-_, _≤_, _<_, min}
 use mathlib.Core.Path.{_≡_, refl, sym, ap, _∙_}
 use mathlib.Core.Bool.{Bool, true, false, cond, not, _&&_, _||_}
 use mathlib.Core.List.{List, [], _∷_, _++_, map}
@@ -10,8 +10,8 @@ use native.Mathlib.Numerals.{add-one, one-add}
 use native.Mathlib.Omega.{arith}
 use native.Mathlib.Decide.{decLt}
 use lib.Dec.{ltb, leb, eqb}
-use borrow.Author.Tests.{lt-ltb, le-ltb, le-leb, leb-true, not-true, not-false}
-use Rattle.flag.specs.Flag.{allOf, anyOf}
+use borrow.Author.Tests.{lt-ltb, le-ltb, le-leb, leb-true, leb-false, not-true, not-false}
+use Rattle.flag.specs.Flag.{allOf, anyOf, implies}
 use Rattle.flag.proofs.Laws.{and-left, and-right}
 use Rattle.queue.specs.Queue.{placesPut, countPut, shifted, contents}
 
@@ -55,6 +55,46 @@ module _ {A : Type 0} {p : A → Bool} {n : ℕ} {xs : List A} {b a : Bool} {i :
   test-ends w h =
       let k : length xs ≤ i = omega arith in
       sym (and-true a) ∙ rw (drop-of-length-le xs k) at (w .same)
+
+-- Testing the rest: a is the test of those of the places from m on that are already seen, of the n places xs.
+pub record Resting {A : Type 0} (p : A → Bool) (n m : ℕ) (xs : List A) (a : Bool) (i : ℕ) : Type 0 where
+  pub long : length xs ≡ n
+  pub same : (a && allOf p (drop (m + (i - m)) xs)) ≡ allOf p (drop m xs)
+
+-- the test from place j on
+from : {A : Type 0} (p : A → Bool) (xs : List A) {j k : ℕ} → j ≡ k → allOf p (drop j xs) ≡ allOf p (drop k xs)
+from p xs e = ap (λ (j : ℕ). allOf p (drop j xs)) e
+
+module _ {A : Type 0} {p : A → Bool} {n m : ℕ} {xs : List A} where
+  pub rest-starts : length xs ≡ n → Resting p n m xs true 0
+  rest-starts l =
+      let start : m + (0 - m) ≡ m = omega arith in
+      record { long = l; same = from p xs start }
+
+  module _ {a : Bool} {i : ℕ} (w : Resting p n m xs a i) where
+    pub rest-turns : (d : A) → i < n → Resting p n m xs (a && implies (leb m i) (p (getD xs i d))) (i + 1)
+    rest-turns d h = go (leb m i) refl
+      where
+        go : (t : Bool) → leb m i ≡ t → Resting p n m xs (a && implies t (p (getD xs i d))) (i + 1)
+        go true e =
+            let at : m ≤ i = leb-true m i e in
+            let now : i ≡ m + (i - m) = omega arith in
+            let then : m + (i + 1 - m) ≡ i + 1 = omega arith in
+            let seen : Testing p n xs (allOf p (drop m xs)) a i =
+            record { long = w .long; same = ap (λ (b : Bool). a && b) (from p xs now) ∙ w .same } in
+            record { long = w .long; same = ap (λ (b : Bool). (a && p (getD xs i d)) && b) (from p xs then) ∙ test-turns d seen h .same }
+        go false e =
+            let before : i < m = leb-false m i e in
+            let still : m + (i + 1 - m) ≡ m + (i - m) = omega arith in
+            record {
+              long = w .long;
+              same = ap (λ (b : Bool). b && allOf p (drop (m + (i + 1 - m)) xs)) (and-true a) ∙ ap (λ (b : Bool). a && b) (from p xs still) ∙ w .same;
+            }
+
+    pub rest-ends : n ≤ i → a ≡ allOf p (drop m xs)
+    rest-ends h =
+        let k : length xs ≤ m + (i - m) = omega (arith, w .long) in
+        sym (and-true a) ∙ rw (drop-of-length-le xs k) at (w .same)
 
 -- Finding one: the search of the m that are queued in the n places xs gives b, where a is that of those already seen, and the
 -- others stand from place i on.

@@ -49,15 +49,17 @@ fn is_zero(e: Entry) -> bool
     e.bi == 0
 }
 
-// Whether every place from `count` on is zero.
+// Whether every place from `count` on is zero. All places are gone over, so that the compiler tests
+// several at once and copies none.
 pub fn rest_is_zero(q: EntryQueue) -> bool
     ensures { λ r. ⌜ r ≡ entryRest q ⌝ }
 {
+    let count = q.count;
     let mut zero = true;
-    let mut i = q.count as usize;
+    let mut i: usize = 0;
     while i < limits::PLACES {
         let e = q.entries[i];
-        zero = flag::both(zero, is_zero(e));
+        zero = flag::both(zero, flag::implies(count <= i as u32, is_zero(e)));
         i += 1;
     }
     zero
