@@ -1,7 +1,7 @@
 -- The part of the state after `load` is that of the numbers.
 use Prim.Native.Nat.{ℕ}
 use mathlib.Core.Path.{_≡_, refl, ap, _∙_}
-use mathlib.Core.Bool.{Bool, true, false, cond, _&&_}
+use mathlib.Core.Bool.{Bool, true, false, cond}
 use mathlib.Core.List.{List, [], _∷_}
 use Rattle.flag.specs.Flag.{every}
 use Rattle.flag.proofs.Laws.{cond-map}

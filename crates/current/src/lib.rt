@@ -65,8 +65,8 @@ fn loaded(n: &[u32]) -> Session
     requires { ⌜ length (now n) ≡ stateCount ⌝ }
     ensures { λ r. ⌜ r ≡ loadedOf (now (n .entry)) ⌝ }
 {
-    let unfit = load::unfit_part(n);
-    let state = load::state_of(n);
+    let unfit = fits::unfit_part(n);
+    let state = numbers::state_of(n);
     if unfit == part::NONE {
         return Session { state, fits: true };
     }

@@ -127,20 +127,13 @@ pub extern "C" fn uart_specimen_state() -> State
 }
 
 #[no_mangle]
-pub extern "C" fn uart_specimen_looked() -> Looked
-    ensures { λ r. ⌜ r ≡ lookedSpecimen ⌝ }
+pub extern "C" fn uart_specimen_leveled() -> Leveled
+    ensures { λ r. ⌜ r ≡ leveledSpecimen ⌝ }
 {
-    Looked {
+    Leveled {
         number: 100,
         part: 113,
-        outputs: Outputs {
-            sout: 102,
-            rts: 103,
-            dtr: 104,
-            out1: 105,
-            out2: 106,
-            intrpt: 107,
-        },
+        level: 101,
     }
 }
 
@@ -152,17 +145,6 @@ pub extern "C" fn uart_specimen_forecasted() -> Forecasted
         number: 100,
         part: 113,
         ticks: 0x65656565,
-    }
-}
-
-#[no_mangle]
-pub extern "C" fn uart_specimen_leveled() -> Leveled
-    ensures { λ r. ⌜ r ≡ leveledSpecimen ⌝ }
-{
-    Leveled {
-        number: 100,
-        part: 113,
-        level: 101,
     }
 }
 
@@ -190,6 +172,24 @@ pub extern "C" fn uart_specimen_ran() -> Ran
         part: 113,
         used: 0x65656565,
         state: uart_specimen_state(),
+    }
+}
+
+#[no_mangle]
+pub extern "C" fn uart_specimen_looked() -> Looked
+    ensures { λ r. ⌜ r ≡ lookedSpecimen ⌝ }
+{
+    Looked {
+        number: 100,
+        part: 113,
+        outputs: Outputs {
+            sout: 102,
+            rts: 103,
+            dtr: 104,
+            out1: 105,
+            out2: 106,
+            intrpt: 107,
+        },
     }
 }
 

@@ -40,6 +40,28 @@ fn refused(s: State) -> Refusal
     }
 }
 
+// The forecast's answer.
+fn forecasted(number: u8, part: u8, ticks: u32) -> Forecasted
+    ensures { λ r. ⌜ r ≡ record { number = number; part = part; ticks = ticks } ⌝ }
+{
+    Forecasted {
+        number,
+        part,
+        ticks,
+    }
+}
+
+// The level's answer.
+fn leveled(number: u8, part: u8, level: u8) -> Leveled
+    ensures { λ r. ⌜ r ≡ record { number = number; part = part; level = level } ⌝ }
+{
+    Leveled {
+        number,
+        part,
+        level,
+    }
+}
+
 // The forecast: the ticks until queue and shift register are both empty. Whatever number of ticks
 // the state is given, none is refused, the two are empty exactly from the forecast on, and the
 // transmitter's line has the level that the frames spell.
@@ -51,17 +73,9 @@ pub fn forecast(s: State) -> Forecasted
     let why = refused(s);
     let number = why.number;
     if number != answer::DONE {
-        return Forecasted {
-            number,
-            part: why.part,
-            ticks: 0,
-        };
+        return forecasted(number, why.part, 0);
     }
-    Forecasted {
-        number: answer::DONE,
-        part: NONE,
-        ticks: forecast::ticks_to_come(s),
-    }
+    forecasted(answer::DONE, NONE, forecast::ticks_to_come(s))
 }
 
 // The level of the transmitter's line after t ticks.
@@ -72,17 +86,9 @@ pub fn level(s: State, t: u32) -> Leveled
     let why = refused(s);
     let number = why.number;
     if number != answer::DONE {
-        return Leveled {
-            number,
-            part: why.part,
-            level: 0,
-        };
+        return leveled(number, why.part, 0);
     }
-    Leveled {
-        number: answer::DONE,
-        part: NONE,
-        level: forecast::level_after(s, t),
-    }
+    leveled(answer::DONE, NONE, forecast::level_after(s, t))
 }
 
 // At most n ticks, until queue and shift register are both empty.

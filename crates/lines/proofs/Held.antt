@@ -14,7 +14,7 @@ use Rattle.command.specs.Command.{longestLine, operandsOf}
 use Rattle.command.proofs.Longest.{long-line}
 use Rattle.current.specs.Commands.{saidOf, nextOf, keptOf}
 use Rattle.session.specs.Session.{Standing, standing, lineSaid, lineNext}
-use Rattle.lines.specs.Lines.{Reading, reading, readAfter, writtenAfter, heldOf, held, Led}
+use Rattle.lines.specs.Lines.{Reading, reading, readAfter, heldOf, held, Led}
 use Rattle.lines.proofs.Blocks.{read-part}
 
 -- A line that is no command leaves the run where it stands, and is answered `bad`.

@@ -1,6 +1,6 @@
 -- A step on a well-formed state.
 use Prim.Native.Nat.{ℕ}
-use mathlib.Core.Path.{_≡_, refl, sym, ap, _∙_}
+use mathlib.Core.Path.{_≡_, sym, ap, _∙_}
 use mathlib.Core.Bool.{true, false}
 use Rattle.device.specs.declared.Inputs.{Inputs}
 use Rattle.device.specs.declared.State.{State}

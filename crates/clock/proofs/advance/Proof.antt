@@ -6,7 +6,7 @@ use Rattle.device.specs.Autoflow.{settled}
 use Rattle.device.specs.Tick.{pulsed}
 use Rattle.invariant.proofs.Settled.{Kept}
 use Rattle.queue.proofs.Laws.{length-mapped}
-use mathlib.Core.Path.{_≡_, ap, _∙_}
+use mathlib.Core.Path.{ap, _∙_}
 use native.Mathlib.Omega.{arith}
 use borrow.Author.Needs.{needs}
 use Rattle.clock.proofs.advance.Statement.{statement}

@@ -20,10 +20,11 @@ refused-requires c κs = search needs
 returns : tie.Need-returns
 unfolding forecastOf
 returns c =
-    let s = c .before .before .args .s in
-    let same = c .before .refused .ensures .0 in
-    let some : forecastNumber s ≡ 0 → ⊥ = λ e. c .if1 .taken (same ∙ e) in
-    (rw (same, c .before .refused .ensures .1) (simp (ne-eqb _ _ some)), ((λ e. absurd (c .if1 .taken e)), omega arith))
+    let s = c .before .before .before .args .s in
+    let same = c .before .before .refused .ensures .0 in
+    let told = c .forecasted .ensures in
+    let some : forecastNumber s ≡ 0 → ⊥ = λ e. c .before .if1 .taken (same ∙ e) in
+    (rw (told, same, c .before .before .refused .ensures .1) (simp (ne-eqb _ _ some)), ((λ e. absurd (c .before .if1 .taken (rw told at e))), rw told (omega arith)))
 
 ticks-to-come-requires : tie.Need-ticks-to-come-requires
 ticks-to-come-requires c κs = sym (c .before .refused .ensures .0) ∙ c .if1 .left
@@ -31,9 +32,13 @@ ticks-to-come-requires c κs = sym (c .before .refused .ensures .0) ∙ c .if1 .
 returns-2 : tie.Need-returns-2
 unfolding forecastOf
 returns-2 c =
-    let none = sym (c .before .before .refused .ensures .0) ∙ c .before .if1 .left in
-    (rw (c .ticks-to-come .ensures) (simp (eq-eqb _ _ none)), ((λ _ t. rw (c .ticks-to-come .ensures) (foretold _ (kept (c .before .before .before) none) none t)), rw (c .ticks-to-come .ensures) (forecast-most (c .before .before .before .args .s) none)))
+    let s = c .before .before .before .before in
+    let none = sym (c .before .before .before .refused .ensures .0) ∙ c .before .before .if1 .left in
+    let told = c .forecasted2 .ensures in
+    let ticks = c .before .ticks-to-come .ensures in
+    (rw (told, ticks) (simp (eq-eqb _ _ none)), ((λ _ t. rw (told, ticks) (foretold _ (kept s none) none t)), rw (told, ticks) (forecast-most (s .args .s) none)))
 
 pub forecast-spec : {M : Type 1} → statement M
 forecast-spec =
-    tie.close (tie.spec refused-requires returns ticks-to-come-requires returns-2)
+    tie.close
+    (tie.spec refused-requires (λ c κs. search needs) returns ticks-to-come-requires (λ c κs. search needs) returns-2)

@@ -12,10 +12,11 @@ refused-requires c κs = search needs
 returns : tie.Need-returns
 unfolding levelOf
 returns c =
-    let s = c .before .before .args .s in
-    let same = c .before .refused .ensures .0 in
-    let some : forecastNumber s ≡ 0 → ⊥ = λ e. c .if1 .taken (same ∙ e) in
-    (rw (same, c .before .refused .ensures .1) (simp (ne-eqb _ _ some)), λ e. absurd (c .if1 .taken e))
+    let s = c .before .before .before .args .s in
+    let same = c .before .before .refused .ensures .0 in
+    let told = c .leveled .ensures in
+    let some : forecastNumber s ≡ 0 → ⊥ = λ e. c .before .if1 .taken (same ∙ e) in
+    (rw (told, same, c .before .before .refused .ensures .1) (simp (ne-eqb _ _ some)), λ e. absurd (c .before .if1 .taken (rw told at e)))
 
 level-after-requires : tie.Need-level-after-requires
 level-after-requires c κs = sym (c .before .refused .ensures .0) ∙ c .if1 .left
@@ -23,14 +24,12 @@ level-after-requires c κs = sym (c .before .refused .ensures .0) ∙ c .if1 .le
 returns-2 : tie.Need-returns-2
 unfolding levelOf
 returns-2 c =
-    let none = sym (c .before .before .refused .ensures .0) ∙ c .before .if1 .left in
-    (rw (c .level-after .ensures .0) (simp (eq-eqb _ _ none)), λ _. c .level-after .ensures .1)
+    let none = sym (c .before .before .before .refused .ensures .0) ∙ c .before .before .if1 .left in
+    let told = c .leveled2 .ensures in
+    let after = c .before .level-after .ensures in
+    (rw (told, after .0) (simp (eq-eqb _ _ none)), λ _. rw told (after .1))
 
 pub level-spec : {M : Type 1} → statement M
 level-spec =
     tie.close
-    (tie.spec
-    refused-requires
-    returns
-    level-after-requires
-    returns-2)
+    (tie.spec refused-requires (λ c κs. search needs) returns level-after-requires (λ c κs. search needs) returns-2)

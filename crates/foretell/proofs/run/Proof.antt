@@ -4,7 +4,7 @@ use Rattle.forecast.proofs.Foretold.{stops-in-time}
 use Rattle.invariant.proofs.Settled.{Kept}
 use Rattle.queue.proofs.Laws.{length-mapped}
 use Rattle.device.specs.Ranges.{wellFormed}
-use mathlib.Core.Path.{_≡_, sym, _∙_}
+use mathlib.Core.Path.{_≡_, _∙_}
 use mathlib.Core.Bool.{true}
 use native.Mathlib.Omega.{arith}
 use borrow.Author.Tests.{eq-eqb, ne-eqb}

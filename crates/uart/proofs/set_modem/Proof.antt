@@ -1,6 +1,6 @@
 -- The rows of the table in their order: 1, 3, or done.
 use Rattle.device.specs.Calls.{done, modemOf}
-use mathlib.Core.Path.{sym, _∙_}
+use mathlib.Core.Path.{_∙_}
 use borrow.Author.Tests.{eq-eqb, ne-eqb, lt-leb, le-leb}
 use borrow.Author.Needs.{needs}
 use Rattle.uart.proofs.set_modem.Statement.{statement}

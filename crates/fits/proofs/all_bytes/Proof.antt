@@ -1,14 +1,14 @@
 -- The test of the numbers from `i` on is that of all.
 use Rattle.flag.specs.Flag.{allOf}
-use Rattle.load.proofs.Places.{Testing, test-turns, test-fails, test-ends}
+use Rattle.fits.proofs.Places.{Testing, test-turns, test-fails, test-ends}
 use Rattle.numbers.specs.Numbers.{isByte}
 use Prim.Native.Nat.{_-_}
 use mathlib.Core.Path.{refl}
 use lib.ListN.{length}
 use native.Mathlib.Omega.{arith}
 use borrow.Author.Needs.{needs}
-use Rattle.load.proofs.all_bytes.Statement.{statement}
-use Rattle.load.proofs.all_bytes.Tie as tie
+use Rattle.fits.proofs.all_bytes.Statement.{statement}
+use Rattle.fits.proofs.all_bytes.Tie as tie
 
 abbrev Inv-loop : tie.InvT-loop
 Inv-loop n i₀ i = Testing n (allOf isByte n) i

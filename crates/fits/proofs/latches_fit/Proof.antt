@@ -1,7 +1,7 @@
 -- The tests are the definition's.
 use borrow.Author.Needs.{needs}
-use Rattle.load.proofs.latches_fit.Statement.{statement}
-use Rattle.load.proofs.latches_fit.Tie as tie
+use Rattle.fits.proofs.latches_fit.Statement.{statement}
+use Rattle.fits.proofs.latches_fit.Tie as tie
 
 returns : tie.Need-returns
 returns c = rw (c .both .ensures, c .before .bytes-in2 .ensures, c .before .before .bytes-in .ensures)

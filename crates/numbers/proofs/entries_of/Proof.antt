@@ -1,14 +1,14 @@
 -- The first `i` places have their entries.
-use Rattle.load.proofs.Places.{Making, make-turns, make-ends, entries-count, entry-at}
+use Rattle.numbers.proofs.Made.{Making, make-turns, make-ends, entries-count, entry-at}
 use Rattle.queue.specs.Queue.{noEntry}
 use Rattle.numbers.specs.Numbers.{entryOf, entriesOf}
 use Rattle.text.proofs.Splitting.{rest-of}
 use Prim.Native.Nat.{_-_, _*_}
 use mathlib.Core.Path.{ap, _∙_}
 use native.Mathlib.Omega.{arith}
 use borrow.Author.Needs.{needs}
-use Rattle.load.proofs.entries_of.Statement.{statement}
-use Rattle.load.proofs.entries_of.Tie as tie
+use Rattle.numbers.proofs.entries_of.Statement.{statement}
+use Rattle.numbers.proofs.entries_of.Tie as tie
 
 abbrev Inv-loop : tie.InvT-loop
 Inv-loop n entries₀ i₀ entries i = Making noEntry 64 (entriesOf 64 n) entries i

@@ -1,8 +1,8 @@
 -- Each part is that of the definition.
 use borrow.Author.Needs.{needs}
 use Rattle.numbers.specs.Numbers.{stateOf}
-use Rattle.load.proofs.state_of.Statement.{statement}
-use Rattle.load.proofs.state_of.Tie as tie
+use Rattle.numbers.proofs.state_of.Statement.{statement}
+use Rattle.numbers.proofs.state_of.Tie as tie
 
 registers-of-requires : tie.Need-registers-of-requires
 registers-of-requires c κs = search needs

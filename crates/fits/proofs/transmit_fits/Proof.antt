@@ -1,7 +1,7 @@
 -- The tests are the definition's.
 use borrow.Author.Needs.{needs}
-use Rattle.load.proofs.transmit_fits.Statement.{statement}
-use Rattle.load.proofs.transmit_fits.Tie as tie
+use Rattle.fits.proofs.transmit_fits.Statement.{statement}
+use Rattle.fits.proofs.transmit_fits.Tie as tie
 
 returns : tie.Need-returns
 returns c = rw (c .both .ensures, c .before .bytes-in2 .ensures, c .before .before .bytes-in .ensures)

@@ -3,8 +3,8 @@ use Rattle.numbers.specs.Numbers.{fits, unfitPart}
 use mathlib.Core.Path.{refl, sym, _∙_}
 use borrow.Author.Tests.{not-true, not-false}
 use borrow.Author.Needs.{needs}
-use Rattle.load.proofs.unfit_part.Statement.{statement}
-use Rattle.load.proofs.unfit_part.Tie as tie
+use Rattle.fits.proofs.unfit_part.Statement.{statement}
+use Rattle.fits.proofs.unfit_part.Tie as tie
 
 registers-fit-requires : tie.Need-registers-fit-requires
 registers-fit-requires c κs = search needs

@@ -1,8 +1,8 @@
 -- The queue of its places.
 use Rattle.numbers.specs.Numbers.{transmitOf}
 use borrow.Author.Needs.{needs}
-use Rattle.load.proofs.transmit_of.Statement.{statement}
-use Rattle.load.proofs.transmit_of.Tie as tie
+use Rattle.numbers.proofs.transmit_of.Statement.{statement}
+use Rattle.numbers.proofs.transmit_of.Tie as tie
 
 sub-bytes-of : tie.Need-sub-bytes-of
 sub-bytes-of c = search needs

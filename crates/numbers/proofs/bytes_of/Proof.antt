@@ -1,14 +1,14 @@
 -- The first `i` places have their bytes.
-use Rattle.load.proofs.Places.{Making, make-turns, make-ends, low-at}
+use Rattle.numbers.proofs.Made.{Making, make-turns, make-ends, low-at}
 use lib.ListN.{length-map}
 use mathlib.Core.List.{map}
 use Rattle.numbers.specs.Numbers.{low}
 use Prim.Native.Nat.{_-_}
 use mathlib.Core.Path.{refl, _∙_}
 use native.Mathlib.Omega.{arith}
 use borrow.Author.Needs.{needs}
-use Rattle.load.proofs.bytes_of.Statement.{statement}
-use Rattle.load.proofs.bytes_of.Tie as tie
+use Rattle.numbers.proofs.bytes_of.Statement.{statement}
+use Rattle.numbers.proofs.bytes_of.Tie as tie
 
 abbrev Inv-loop : tie.InvT-loop
 Inv-loop n bytes₀ i₀ bytes i = Making 0 64 (map low n) bytes i

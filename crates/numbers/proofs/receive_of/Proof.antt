@@ -1,8 +1,8 @@
 -- The queue of its places.
 use Rattle.numbers.specs.Numbers.{receiveOf}
 use borrow.Author.Needs.{needs}
-use Rattle.load.proofs.receive_of.Statement.{statement}
-use Rattle.load.proofs.receive_of.Tie as tie
+use Rattle.numbers.proofs.receive_of.Statement.{statement}
+use Rattle.numbers.proofs.receive_of.Tie as tie
 
 sub-entries-of : tie.Need-sub-entries-of
 sub-entries-of c = search needs

@@ -1,7 +1,7 @@
 -- The tests are the definition's.
 use borrow.Author.Needs.{needs}
-use Rattle.load.proofs.receive_fits.Statement.{statement}
-use Rattle.load.proofs.receive_fits.Tie as tie
+use Rattle.fits.proofs.receive_fits.Statement.{statement}
+use Rattle.fits.proofs.receive_fits.Tie as tie
 
 returns : tie.Need-returns
 returns c =

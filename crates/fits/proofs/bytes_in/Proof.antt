@@ -4,8 +4,8 @@ use mathlib.Core.Path.{_≡_}
 use native.Mathlib.Omega.{arith}
 use borrow.Author.Needs.{needs}
 use Rattle.numbers.specs.Numbers.{bytesIn}
-use Rattle.load.proofs.bytes_in.Statement.{statement}
-use Rattle.load.proofs.bytes_in.Tie as tie
+use Rattle.fits.proofs.bytes_in.Statement.{statement}
+use Rattle.fits.proofs.bytes_in.Tie as tie
 
 sub-from : tie.Need-sub-from
 sub-from c = search needs
