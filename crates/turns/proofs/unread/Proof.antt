@@ -3,8 +3,8 @@ use mathlib.Core.Path.{sym, _∙_}
 use mathlib.Core.Bool.{false≢true}
 use native.Mathlib.Omega.{arith}
 use borrow.Author.Needs.{needs}
-use Rattle.calls.proofs.unread.Statement.{statement}
-use Rattle.calls.proofs.unread.Tie as tie
+use Rattle.turns.proofs.unread.Statement.{statement}
+use Rattle.turns.proofs.unread.Tie as tie
 
 errno-requires : tie.Need-errno-requires
 errno-requires c κs = search needs

@@ -11,8 +11,8 @@ use lib.ListN.{take, drop}
 use lib.Seq.{length-take-le, take-add}
 use native.Mathlib.Omega.{arith}
 use borrow.Author.Needs.{needs}
-use Rattle.calls.proofs.turn.Statement.{statement}
-use Rattle.calls.proofs.turn.Tie as tie
+use Rattle.turns.proofs.turn.Statement.{statement}
+use Rattle.turns.proofs.turn.Tie as tie
 
 read-after-requires : tie.Need-read-after-requires
 read-after-requires c κs = search needs

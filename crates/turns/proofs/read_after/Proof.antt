@@ -4,8 +4,8 @@ use Prim.Native.Nat.{_-_}
 use lib.ListN.{length, length-take, length-drop}
 use native.Mathlib.Omega.{arith}
 use borrow.Author.Needs.{needs}
-use Rattle.calls.proofs.read_after.Statement.{statement}
-use Rattle.calls.proofs.read_after.Tie as tie
+use Rattle.turns.proofs.read_after.Statement.{statement}
+use Rattle.turns.proofs.read_after.Tie as tie
 
 sub-read : tie.Need-sub-read
 sub-read c = search needs
