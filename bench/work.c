@@ -40,15 +40,17 @@ static void report(const char *name, double start, double units, const struct de
     sum = 0;
 }
 
-/* FIFO of 64 bytes, eight bits and no parity, with this divisor, MCR and bytes queued. */
-static void prepare(struct device *d, uint32_t divisor, uint8_t mcr, int bytes)
+enum { NO_PARITY = 0x03, EVEN_PARITY = 0x1B }; /* LCR, eight bits */
+
+/* FIFO of 64 bytes, with this divisor, LCR, MCR and bytes queued. */
+static void prepare(struct device *d, uint32_t divisor, uint8_t lcr, uint8_t mcr, int bytes)
 {
     device_fresh(d);
     device_write(d, 3, 0x80);
     device_write(d, 0, (uint8_t)(divisor & 0xFF));
     device_write(d, 1, (uint8_t)(divisor >> 8));
     device_write(d, 2, 0xE1);
-    device_write(d, 3, 0x03);
+    device_write(d, 3, lcr);
     device_write(d, 4, mcr);
     device_write(d, 1, 0x0F);
     for (int i = 0; i < bytes; i++)
@@ -64,7 +66,7 @@ static void single_calls(void)
     struct device d;
     double start;
 
-    prepare(&d, 12, 0x10, 60);
+    prepare(&d, 12, NO_PARITY, 0x10, 60);
     device_ticks(&d, 40000);
     start = seconds();
     for (int i = 0; i < CALLS; i++)
@@ -86,7 +88,7 @@ static void single_calls(void)
         add(device_pins(&d));
     report("pins", start, CALLS, &d);
 
-    prepare(&d, 12, 0x00, 64);
+    prepare(&d, 12, NO_PARITY, 0x00, 64);
     start = seconds();
     for (int i = 0; i < CALLS; i++)
         add(device_forecast(&d));
@@ -99,14 +101,14 @@ static void single_calls(void)
 }
 
 /* Run from the same state again and again, at most n ticks each, `ticks` of them in all. */
-static void runs(const char *name, uint32_t divisor, uint8_t mcr, int bytes, uint32_t n, double ticks)
+static void runs(const char *name, uint32_t divisor, uint8_t lcr, uint8_t mcr, uint32_t n, double ticks)
 {
     struct device first;
     struct device d;
     double used = 0;
     double start;
 
-    prepare(&first, divisor, mcr, bytes);
+    prepare(&first, divisor, lcr, mcr, 64);
     start = seconds();
     while (used < ticks) {
         uint32_t x;
@@ -124,7 +126,7 @@ static void idle(const char *name, uint32_t divisor, uint32_t n)
     struct device d;
     double start;
 
-    prepare(&d, divisor, 0x00, 0);
+    prepare(&d, divisor, NO_PARITY, 0x00, 0);
     start = seconds();
     add(device_ticks(&d, n));
     report(name, start, n, &d);
@@ -133,14 +135,15 @@ static void idle(const char *name, uint32_t divisor, uint32_t n)
 int main(void)
 {
     single_calls();
-    runs("run, divisor 1, sending", 1, 0x00, 64, UINT32_MAX, 1e7);
-    runs("run, divisor 1, loopback", 1, 0x10, 64, UINT32_MAX, 1e7);
-    runs("run, divisor 1, held", 1, 0x20, 64, 1000000, 1e7);
+    runs("run, divisor 1, sending", 1, NO_PARITY, 0x00, UINT32_MAX, 1e7);
+    runs("run, divisor 1, loopback", 1, NO_PARITY, 0x10, UINT32_MAX, 1e7);
+    runs("run, divisor 1, loopback, even parity", 1, EVEN_PARITY, 0x10, UINT32_MAX, 1e7);
+    runs("run, divisor 1, held", 1, NO_PARITY, 0x20, 1000000, 1e7);
     idle("ticks, divisor 1, idle", 1, 10000000);
-    runs("run, divisor 12, sending", 12, 0x00, 64, UINT32_MAX, 2e7);
-    runs("run, divisor 12, loopback", 12, 0x10, 64, UINT32_MAX, 2e7);
+    runs("run, divisor 12, sending", 12, NO_PARITY, 0x00, UINT32_MAX, 2e7);
+    runs("run, divisor 12, loopback", 12, NO_PARITY, 0x10, UINT32_MAX, 2e7);
     idle("ticks, divisor 12, idle", 12, 20000000);
-    runs("run, divisor 65535, sending", 65535, 0x00, 64, 20000000, 2e7);
-    runs("run, divisor 65535, loopback", 65535, 0x10, 64, 20000000, 2e7);
+    runs("run, divisor 65535, sending", 65535, NO_PARITY, 0x00, 20000000, 2e7);
+    runs("run, divisor 65535, loopback", 65535, NO_PARITY, 0x10, 20000000, 2e7);
     return 0;
 }

@@ -476,6 +476,24 @@ def bad_ones(words):
     yield with_difference("difference-before-difference", damaged, 0)
 
 
+def parity_checked(form):
+    """Every character on SIN with the parity bit right, then wrong."""
+    def sequence(q):
+        q.set_up(form)
+        for byte in st.characters(form):
+            for frame_bits in (st.frame_bits, st.with_flipped_parity):
+                q.bits(frame_bits(byte, form))
+                q.read(LSR, RBR)
+    return sequence
+
+
+def parities(q):
+    """Each width in odd, even and stick parity of either kind."""
+    for form in range(0x08, 0x40):
+        if st.parity_bits(form) and not form & 4:
+            yield "parity-lcr-%02x" % form, utr.capture(recorded(q, parity_checked(form))), AGREED
+
+
 def few(q):
     """Some records that leave the fresh state as it was."""
     q.read(LSR, IIR, LSR)
@@ -493,6 +511,7 @@ def stored(calls):
     yield from long_ones(q)
     yield from left_over(words)
     yield from bad_ones(words)
+    yield from parities(q)
     q.close()
 
 

@@ -80,7 +80,11 @@ MUTANTS = [
     # Frames.
     ("parity of all eight bits", "model.c", "ones_are_odd(byte & data_mask(format))",
      "ones_are_odd(byte)"),
+    ("parity of the zeros", "model.c", "ones_are_odd(byte & data_mask(format))",
+     "ones_are_odd(~byte & data_mask(format))"),
     ("stick parity as LCR4", "model.c", "        return even ^ 1u;", "        return even;"),
+    ("stick parity by the count", "model.c", "        return even ^ 1u;",
+     "        return ones_are_odd(byte & data_mask(format)) ^ 1u;"),
     ("parity odd and even swapped", "model.c", "data_mask(format)) ^ even ^ 1u;",
      "data_mask(format)) ^ even;"),
     ("24 stop pulses for all widths", "model.c",

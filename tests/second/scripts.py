@@ -570,6 +570,26 @@ def formats_received(q):
         q.read(LSR, RBR)
 
 
+def parity_sent(q):
+    """Every character in odd, even and stick parity: the parity bit by level; then through loopback,
+    with what the receiver makes of it."""
+    for form in range(64):
+        if not st.parity_bits(form) or form & 4:
+            continue
+        q.fresh()
+        q.set_up(form, fcr=0x21, mcr=0x10)
+        length = st.frame_length(form)
+        parity = 1 + 16 * (1 + st.data_bits(form))
+        characters = st.characters(form)
+        for at in range(0, len(characters), 64):
+            some = characters[at:at + 64]
+            q.write(THR, *some)
+            q.level(*(parity + length * i for i in range(len(some))))
+            q.run(64 * length + 1)
+            for _ in some:
+                q.read(LSR, RBR)
+
+
 def parity_errors(q):
     for form in range(64):
         if not st.parity_bits(form) or form & 4:
@@ -1596,6 +1616,7 @@ SUBJECTS = (
     ("formats-sent", "all 64 formats on SOUT", formats_sent),
     ("formats-looped", "all 64 formats through loopback", formats_looped),
     ("formats-received", "all 64 formats on SIN", formats_received),
+    ("parity-sent", "the parity bit of every character", parity_sent),
     ("parity", "parity errors", parity_errors),
     ("framing-break", "framing errors and breaks", framing_and_break),
     ("false-starts", "false starts and the places of samples", false_starts),

@@ -95,6 +95,12 @@ def with_flipped_parity(byte, form):
     return bits
 
 
+def characters(form):
+    """A byte for every character of the width, with changing bits above it."""
+    width = data_bits(form)
+    return [(37 * c << width | c) & 255 for c in range(1 << width)]
+
+
 def with_low_stop(byte, form):
     return frame_bits(byte, form)[:-1] + [0]
 

@@ -1,6 +1,7 @@
 -- Every starred row holds by computation.
 use mathlib.Core.Path.{refl}
-use Rattle.frame.specs.Format.{stopPulses, frameLength, ones, parityBit}
+use lib.Count.{ones, onesIn}
+use Rattle.frame.specs.Format.{stopPulses, frameLength, hasParity, parityBit}
 use Rattle.frame.specs.Forecast.{pulsesLeft, ticksLeft}
 use Rattle.queue.specs.Queue.{isFull, countPut, placesPut, noBytes, putByte, byteRest, noEntries, entryRest, entriesWithin, entryErrors}
 use Rattle.device.specs.State.{freshOf}
@@ -24,7 +25,7 @@ use Rattle.device.specs.Forecast.{noClock, heldBack, forecastNumber, for
 use Rattle.device.specs.Rows.{Rows}
 
 pub rows : Rows
-unfolding stopPulses frameLength ones parityBit pulsesLeft ticksLeft isFull countPut placesPut noBytes putByte byteRest noEntries entryRest entriesWithin entryErrors freshOf capacity triggerLevel effectiveLevels changesAfter autoflow autoRts held settledChanges settledHold settledLatches settled wellFormed partOf rbrRead thrWrite ierWrite lineStatus dataAvailable timeOut thrEmpty modemStatus interruptCode fifoCode iirRead fifoAfter turned switched clearReceive clearTransmit fcrWrite lcrWrite mcrWrite shownErrors temt lsr clearErrors lsrRead withLevels msrRead scrWrite divisorLowWrite divisorHighWrite readRegister writeRegister done readOf writeOf modemOf noClock heldBack forecastNumber forecastOf
+unfolding stopPulses frameLength ones onesIn hasParity parityBit pulsesLeft ticksLeft isFull countPut placesPut noBytes putByte byteRest noEntries entryRest entriesWithin entryErrors freshOf capacity triggerLevel effectiveLevels changesAfter autoflow autoRts held settledChanges settledHold settledLatches settled wellFormed partOf rbrRead thrWrite ierWrite lineStatus dataAvailable timeOut thrEmpty modemStatus interruptCode fifoCode iirRead fifoAfter turned switched clearReceive clearTransmit fcrWrite lcrWrite mcrWrite shownErrors temt lsr clearErrors lsrRead withLevels msrRead scrWrite divisorLowWrite divisorHighWrite readRegister writeRegister done readOf writeOf modemOf noClock heldBack forecastNumber forecastOf
 rows =
     record {
       row1-lsr = refl;

@@ -20,6 +20,7 @@ pub mod Iir
 pub mod Fcr
 pub mod KeptErrors
 pub mod Lcr
+pub mod Parity
 pub mod Divisor
 pub mod Msr
 pub mod Mcr

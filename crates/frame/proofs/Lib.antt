@@ -1,5 +1,6 @@
 pub mod Transmitter
 pub mod Frames
+pub mod Parity
 pub mod Clock
 pub mod Spelled
 pub mod Ticks

@@ -1,8 +1,9 @@
 -- What a format means. A format is bits 0..5 of LCR, a number 0..63 (SLLS191C, "line control register (LCR)", tables 6
 -- and 7; document 01, "The state" and "A tick").
-use Prim.Native.Nat.{ℕ, zero, suc, _+_, _*_, _/_, _%_, _^_}
-use mathlib.Core.Bool.{cond, not}
+use Prim.Native.Nat.{ℕ, _+_, _*_, _/_, _%_, _^_}
+use mathlib.Core.Bool.{Bool, cond, not}
 use lib.Dec.{eqb}
+use lib.Count.{ones}
 use Rattle.flag.specs.Flag.{bit, bitOf}
 
 -- the format that LCR sets
@@ -29,16 +30,22 @@ frameLength f = 16 * (1 + dataBits f + parityBits f) + stopPulses f
 abbrev pub characterOf : ℕ → ℕ → ℕ
 characterOf x f = x % 2 ^ dataBits f
 
--- the ones among the n lowest bits of x
-unfoldable pub ones : ℕ → ℕ → ℕ
-ones zero x = 0
-ones (suc n) x = x % 2 + ones n (x / 2)
+-- even parity: an even number of logic 1s in the data and parity bits; odd parity: an odd number. `ones` is the
+-- library's count of the ones of a number.
+abbrev pub evenParity : ℕ → ℕ → Bool
+evenParity c p = eqb ((ones c + p) % 2) 0
 
--- the parity bit: with bit 5 (stick parity) the opposite of bit 4 (EPS); else it makes the number of ones in the
--- character and itself even with bit 4, odd without. Document 01 overrides UM82450, whose stick parity text is a
--- misprint.
-unfoldable pub parityBit : ℕ → ℕ → ℕ
-parityBit x f =
+abbrev pub oddParity : ℕ → ℕ → Bool
+oddParity c p = eqb ((ones c + p) % 2) 1
+
+-- whether p is right as the parity bit of the character of byte x: even parity with bit 4 (EPS), odd without; with bit 5
+-- (stick parity) the opposite of bit 4. Document 01 overrides UM82450, whose stick parity text is a misprint.
+unfoldable pub hasParity : ℕ → ℕ → ℕ → Bool
+hasParity x f p =
     cond (bit 5 f)
-    (bitOf (not (bit 4 f)))
-    (cond (bit 4 f) (ones 8 (characterOf x f) % 2) ((1 + ones 8 (characterOf x f)) % 2))
+    (eqb p (bitOf (not (bit 4 f))))
+    (cond (bit 4 f) (evenParity (characterOf x f) p) (oddParity (characterOf x f) p))
+
+-- the parity bit: 1 where 1 is right, else 0
+unfoldable pub parityBit : ℕ → ℕ → ℕ
+parityBit x f = bitOf (hasParity x f 1)

@@ -5,7 +5,7 @@ use sheet::bits;
 ghost use mathlib.Core.Path.{_≡_};
 ghost use Prim.Native.Nat.{_≤_, _<_, _+_, _-_, _*_, _/_, _%_};
 ghost use lib.ListN.{getD};
-ghost use Rattle.frame.specs.Format.{dataBits, parityBits, stopPulses, frameLength, characterOf, ones, parityBit};
+ghost use Rattle.frame.specs.Format.{dataBits, parityBits, stopPulses, frameLength, characterOf, parityBit};
 ghost use Rattle.frame.specs.Frame.{frameLevels, lineLevel};
 
 // Data bits, 5 to 8.
@@ -55,13 +55,6 @@ fn character(byte: u8, format: u8) -> u8
     }
 }
 
-// The ones of a byte.
-fn ones_of(x: u8) -> u8
-    ensures { λ r. ⌜ (r ≡ ones 8 x) × (r ≤ 8) ⌝ }
-{
-    x % 2 + x / 2 % 2 + x / 4 % 2 + x / 8 % 2 + x / 16 % 2 + x / 32 % 2 + x / 64 % 2 + x / 128 % 2
-}
-
 // The parity bit that a frame of this byte has in this format.
 pub fn parity_bit(byte: u8, format: u8) -> u8
     ensures { λ r. ⌜ (r ≡ parityBit byte format) × (r < 2) ⌝ }
@@ -70,11 +63,11 @@ pub fn parity_bit(byte: u8, format: u8) -> u8
     if flag::has(format, bits::LCR_SPAR) {
         return flag::bit(!even);
     }
-    let x = character(byte, format);
+    let odd = (u8::count_ones(character(byte, format)) % 2) as u8;
     if even {
-        return ones_of(x) % 2;
+        return odd;
     }
-    (1 + ones_of(x)) % 2
+    1 - odd
 }
 
 // The level of the frame of this byte at a place, counted from 0 in pulses; high after the frame.

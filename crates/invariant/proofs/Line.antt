@@ -8,9 +8,9 @@ use lib.Seq.{getD-drop}
 use native.Mathlib.Decide.{decLt}
 use native.Mathlib.Omega.{arith}
 use borrow.Author.Tests.{eqb-true, eqb-false, not-true}
-use Rattle.flag.specs.Flag.{on, bit}
+use Rattle.flag.specs.Flag.{on}
 use Rattle.flag.proofs.Laws.{by-test, and-left, and-right, and-both}
-use Rattle.frame.specs.Format.{formatOf, dataBits, parityBits, frameLength, parityBit}
+use Rattle.frame.specs.Format.{formatOf, dataBits, parityBits, frameLength, hasParity, parityBit}
 use Rattle.frame.specs.Frame.{frameLevels, lineLevel}
 use Rattle.frame.proofs.Frames.{frame-length-bounds, level-start, level-data, level-parity, level-stop}
 use Rattle.queue.specs.declared.Entry.{Entry}
@@ -38,9 +38,7 @@ use Rattle.invariant.proofs.Reception.{receiver-pulse-facts}
 
 parity-bit-most : (x f : ℕ) → parityBit x f ≤ 1
 unfolding parityBit
-parity-bit-most x f =
-    by-test (λ (n : ℕ). n ≤ 1) (bit 5 f) _ _ (λ _. bit-most (not (bit 4 f)))
-    (λ _. by-test (λ (n : ℕ). n ≤ 1) (bit 4 f) _ _ (λ _. omega arith) (λ _. omega arith))
+parity-bit-most x f = bit-most (hasParity x f 1)
 
 level-most : (x f i : ℕ) → getD (frameLevels x f) i 1 ≤ 1
 level-most x f i = go (i / 16) refl

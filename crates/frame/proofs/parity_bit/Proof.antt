@@ -1,8 +1,12 @@
 -- With stick parity the bit is the opposite of LCR4; else the ones of the character decide.
-use Rattle.frame.specs.Format.{parityBit}
-use mathlib.Core.Path.{sym, _∙_}
+use mathlib.Core.Path.{sym, ap, _∙_}
+use mathlib.Core.Bool.{Bool, not}
+use Prim.Native.Nat.{ℕ, _-_, _%_}
 use native.Mathlib.Omega.{arith}
 use borrow.Author.Needs.{needs}
+use lib.Count.{ones}
+use Rattle.flag.specs.Flag.{bitOf}
+use Rattle.frame.proofs.Parity.{parity-even, parity-odd, parity-stick}
 use Rattle.frame.proofs.parity_bit.Statement.{statement}
 use Rattle.frame.proofs.parity_bit.Tie as tie
 
@@ -16,37 +20,31 @@ bit-requires : tie.Need-bit-requires
 bit-requires c κs = search needs
 
 returns : tie.Need-returns
-unfolding parityBit
 returns c =
     let even = c .before .before .before .has .ensures in
     let stick = sym (c .before .before .has2 .ensures) ∙ c .before .if1 .taken in
-    (c .bit .ensures .0 ∙ simp (stick, even), c .bit .ensures .1)
+    (c .bit .ensures .0 ∙ ap (λ (b : Bool). bitOf (not b)) even ∙ sym (parity-stick _ _ stick), c .bit .ensures .1)
 
 character-requires : tie.Need-character-requires
 character-requires c κs = search needs
 
-ones-of-requires : tie.Need-ones-of-requires
-ones-of-requires c κs = search needs
+cast-odd : tie.Need-cast-odd
+cast-odd c = search needs
 
 returns-2 : tie.Need-returns-2
-unfolding parityBit
 returns-2 c =
-    let even = sym (c .before .before .before .before .before .has .ensures) ∙ c .before .if2 .taken in
-    let stick = sym (c .before .before .before .before .has2 .ensures) ∙ c .before .before .before .if1 .left in
-    (simp (stick, even, c .ones-of .ensures .0, c .before .before .character .ensures), omega arith)
+    let even = sym (c .before .before .before .before .has .ensures) ∙ c .if2 .taken in
+    let stick = sym (c .before .before .before .has2 .ensures) ∙ c .before .before .if1 .left in
+    (ap (λ (n : ℕ). ones n % 2) (c .before .character .ensures) ∙ sym (parity-even _ _ stick even), omega arith)
 
-ones-of-requires-2 : tie.Need-ones-of-requires-2
-ones-of-requires-2 c κs = search needs
-
-add-result : tie.Need-add-result
-add-result c = search needs
+sub-result : tie.Need-sub-result
+sub-result c = search needs
 
 returns-3 : tie.Need-returns-3
-unfolding parityBit
 returns-3 c =
-    let even = sym (c .before .before .before .before .before .has .ensures) ∙ c .before .if2 .left in
-    let stick = sym (c .before .before .before .before .has2 .ensures) ∙ c .before .before .before .if1 .left in
-    (simp (stick, even, c .ones-of2 .ensures .0, c .before .before .character .ensures), omega arith)
+    let even = sym (c .before .before .before .before .has .ensures) ∙ c .if2 .left in
+    let stick = sym (c .before .before .before .has2 .ensures) ∙ c .before .before .if1 .left in
+    (ap (λ (n : ℕ). 1 - ones n % 2) (c .before .character .ensures) ∙ sym (parity-odd _ _ stick even), omega arith)
 
 pub parity-bit-spec : {M : Type 1} → statement M
 parity-bit-spec =
@@ -57,8 +55,7 @@ parity-bit-spec =
     bit-requires
     returns
     character-requires
-    ones-of-requires
+    cast-odd
     returns-2
-    ones-of-requires-2
-    add-result
+    sub-result
     returns-3)
