@@ -106,8 +106,7 @@ pub fn quiet_pulse(c: Setting, x: Frame, v: Receiver, l: Latches) -> QuietPulse
             latches: later(c, l),
         };
     }
-    let level = receiver::heard(c.loopback, next, c.sin);
-    let r = receiver::receive(level, c.lcr, v);
+    let r = receiver::listen(c.loopback, next, c.sin, c.lcr, v);
     if r.ended {
         return busy(x, v, l);
     }

@@ -154,7 +154,7 @@ fn in_character(level: u8, lcr: u8, position: u32, v: Receiver) -> Received
 }
 
 // What a pulse that hears a level makes of the receiver.
-pub fn receive(level: u8, lcr: u8, v: Receiver) -> Received
+fn receive(level: u8, lcr: u8, v: Receiver) -> Received
     requires { ⌜ Sampling level v ⌝ }
     ensures { λ r. ⌜ r ≡ receiverPulse level lcr v ⌝ }
 {
@@ -174,7 +174,7 @@ pub fn receive(level: u8, lcr: u8, v: Receiver) -> Received
 }
 
 // The level that the receiver hears: in loopback the transmitter's line, else SIN.
-pub fn heard(loopback: bool, x: Frame, sin: u8) -> u8
+fn heard(loopback: bool, x: Frame, sin: u8) -> u8
     requires { ⌜ sin ≤ 1 ⌝ }
     ensures { λ r. ⌜ (r ≡ cond loopback (line x) sin) × (r ≤ 1) ⌝ }
 {
@@ -182,6 +182,15 @@ pub fn heard(loopback: bool, x: Frame, sin: u8) -> u8
         return frame::line_level(x.left, x.byte, x.format);
     }
     sin
+}
+
+// What a pulse makes of a receiver.
+pub fn listen(loopback: bool, x: Frame, sin: u8, lcr: u8, v: Receiver) -> Received
+    requires { ⌜ Sampling sin v ⌝ }
+    ensures { λ r. ⌜ r ≡ receiverPulse (cond loopback (line x) sin) lcr v ⌝ }
+{
+    let level = heard(loopback, x, sin);
+    receive(level, lcr, v)
 }
 
 // What this pulse makes of the receiver.
@@ -192,8 +201,7 @@ pub fn hear(s: State) -> Received
     let r = s.registers;
     let x = s.frame;
     let v = s.receiver;
-    let level = heard(modem::loopback(r), x, s.inputs.sin);
-    receive(level, r.lcr, v)
+    listen(modem::loopback(r), x, s.inputs.sin, r.lcr, v)
 }
 
 // Whether a queue with `count` entries is full.

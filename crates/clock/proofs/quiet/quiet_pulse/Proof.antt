@@ -32,25 +32,24 @@ returns-2 : tie.Need-returns-2
 unfolding quietOf
 returns-2 c = rw (c .later .ensures, c .before .step .ensures, ← c .before .before .before .before .before .before .before .shift-out .ensures, sym (c .before .before .before .before .before .both .ensures) ∙ c .before .before .before .before .if1 .left, steady-receives _ (c .before .before .before .before .before .before .before .shift-out .result) _ _ _ (sym (c .before .before .before .steady .ensures) ∙ c .before .before .if2 .taken))
 
-heard-requires : tie.Need-heard-requires
-heard-requires c κs = c .before .before .before .before .before .before .pre .sin
-
-receive-requires : tie.Need-receive-requires
-receive-requires c κs = search needs
+listen-requires : tie.Need-listen-requires
+listen-requires c κs =
+    let pre = c .before .before .before .before .before .before .pre in
+    record { level = pre .sin; placed = pre .placed }
 
 busy-requires-2 : tie.Need-busy-requires-2
 busy-requires-2 c κs = search needs
 
 returns-3 : tie.Need-returns-3
 unfolding quietOf
-returns-3 c = rw (c .busy2 .ensures, ← c .before .before .before .before .before .before .before .before .before .shift-out .ensures, sym (c .before .before .before .before .before .before .before .both .ensures) ∙ c .before .before .before .before .before .before .if1 .left, ← c .before .before .before .heard .ensures .0, ← c .before .before .receive .ensures, c .before .if3 .taken)
+returns-3 c = rw (c .busy2 .ensures, ← c .before .before .before .before .before .before .before .before .shift-out .ensures, sym (c .before .before .before .before .before .before .both .ensures) ∙ c .before .before .before .before .before .if1 .left, ← c .before .before .listen .ensures, c .before .if3 .taken)
 
 later-requires-2 : tie.Need-later-requires-2
 later-requires-2 c κs = search needs
 
 returns-4 : tie.Need-returns-4
 unfolding quietOf
-returns-4 c = rw (c .later2 .ensures, ← c .before .before .before .before .before .before .before .before .before .before .shift-out .ensures, sym (c .before .before .before .before .before .before .before .before .both .ensures) ∙ c .before .before .before .before .before .before .before .if1 .left, ← c .before .before .before .before .heard .ensures .0, ← c .before .before .before .receive .ensures, c .before .before .if3 .left)
+returns-4 c = rw (c .later2 .ensures, ← c .before .before .before .before .before .before .before .before .before .shift-out .ensures, sym (c .before .before .before .before .before .before .before .both .ensures) ∙ c .before .before .before .before .before .before .if1 .left, ← c .before .before .before .listen .ensures, c .before .before .if3 .left)
 
 pub quiet-pulse-spec : {M : Type 1} → statement M
 quiet-pulse-spec =
@@ -64,8 +63,7 @@ quiet-pulse-spec =
     step-requires
     later-requires
     returns-2
-    heard-requires
-    receive-requires
+    listen-requires
     busy-requires-2
     returns-3
     later-requires-2
