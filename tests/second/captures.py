@@ -489,9 +489,8 @@ def parity_checked(form):
 
 def parities(q):
     """Each width in odd, even and stick parity of either kind."""
-    for form in range(0x08, 0x40):
-        if st.parity_bits(form) and not form & 4:
-            yield "parity-lcr-%02x" % form, utr.capture(recorded(q, parity_checked(form))), AGREED
+    for form in st.PARITY_FORMATS:
+        yield "parity-lcr-%02x" % form, utr.capture(recorded(q, parity_checked(form))), AGREED
 
 
 def few(q):

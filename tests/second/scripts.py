@@ -573,9 +573,7 @@ def formats_received(q):
 def parity_sent(q):
     """Every character in odd, even and stick parity: the parity bit by level; then through loopback,
     with what the receiver makes of it."""
-    for form in range(64):
-        if not st.parity_bits(form) or form & 4:
-            continue
+    for form in st.PARITY_FORMATS:
         q.fresh()
         q.set_up(form, fcr=0x21, mcr=0x10)
         length = st.frame_length(form)
@@ -591,9 +589,7 @@ def parity_sent(q):
 
 
 def parity_errors(q):
-    for form in range(64):
-        if not st.parity_bits(form) or form & 4:
-            continue
+    for form in st.PARITY_FORMATS:
         for byte in (0x00, 0x01, 0xFF):
             for wrong in (0, 1):
                 bits = st.frame_bits(byte, form)

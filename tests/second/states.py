@@ -81,6 +81,10 @@ def parity_bit(byte, form):
     return (ones & 1) ^ even ^ 1
 
 
+# The formats with a parity bit and one stop bit.
+PARITY_FORMATS = [form for form in range(64) if parity_bits(form) and not form & 4]
+
+
 def frame_bits(byte, form):
     """The bits of a frame on the line: start, data, parity, one stop."""
     bits = [0] + [byte >> i & 1 for i in range(data_bits(form))]

@@ -30,8 +30,8 @@ frameLength f = 16 * (1 + dataBits f + parityBits f) + stopPulses f
 abbrev pub characterOf : ℕ → ℕ → ℕ
 characterOf x f = x % 2 ^ dataBits f
 
--- even parity: an even number of logic 1s in the data and parity bits; odd parity: an odd number. `ones` is the
--- library's count of the ones of a number.
+-- even parity of a character c with its parity bit p: an even number of logic 1s in the data and parity bits; odd
+-- parity: an odd number. `ones` is the library's count of the ones of a number.
 abbrev pub evenParity : ℕ → ℕ → Bool
 evenParity c p = eqb ((ones c + p) % 2) 0
 
