@@ -24,3 +24,6 @@ pub const UNKNOWN_VERSION: u8 = 7;
 
 // A record that is none; a file that ends within its header or within a record.
 pub const BAD_RECORD: u8 = 8;
+
+// A clock or a rate outside its range.
+pub const BAD_RATE: u8 = 9;

@@ -29,3 +29,8 @@ pub const CHANGES_MOST: u8 = 15;
 pub const PLACES: usize = 64;
 
 pub const LAST_PLACE: usize = 63;
+
+// The clock and the rate that a divisor is picked for (document 02 e).
+pub const CLOCK_MOST: u32 = 16000000;
+
+pub const RATE_MOST: u32 = 1000000;

@@ -1,0 +1,4 @@
+pub mod Distance
+pub mod Search
+pub mod Division
+pub mod Error

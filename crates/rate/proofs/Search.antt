@@ -1,0 +1,89 @@
+-- The search over all divisors finds the one that is claimed, and no other divisor is claimed.
+use Prim.Native.Nat.{ℕ, zero, suc, _≤_, _<_}
+use native.Mathlib.Nat.{le-antisymm, le-refl}
+use native.Mathlib.Omega.{arith}
+use mathlib.Core.Path.{_≡_, refl, sym, subst}
+use mathlib.Core.Bool.{Bool, true, false}
+use lib.Dec.{leb, ltb}
+use borrow.Author.Tests.{leb-true, ltb-true, ltb-false}
+use Rattle.flag.proofs.Laws.{by-test, and-left, and-right}
+use Rattle.rate.specs.Rate.{distance, nearestUpTo, within, Nearest}
+
+-- of two that are claimed neither is nearer, so that neither is smaller
+pub only-one : {most clock rate d e : ℕ} → Nearest most clock rate d → Nearest most clock rate e → d ≡ e
+only-one {most} {clock} {rate} {d} {e} p q =
+    let same : distance clock rate d ≡ distance clock rate e = le-antisymm (p .none-nearer e (q .from-one) (q .to-most)) (q .none-nearer d (p .from-one) (p .to-most)) in
+    le-antisymm (p .none-smaller e (q .from-one) (q .to-most) (sym same)) (q .none-smaller d (p .from-one) (p .to-most) same)
+
+-- a claim about the divisors up to n and about the next one is one about those up to it
+up-to : (P : ℕ → Type 0) (n d : ℕ) → d ≤ suc n → (d ≤ n → P d) → P (suc n) → P d
+up-to P n d h below last = go (ltb d (suc n)) refl
+  where
+    go : (b : Bool) → ltb d (suc n) ≡ b → P d
+    go true t = below (let less : d < suc n = ltb-true _ _ t in omega arith)
+    go false t =
+        let same : suc n ≡ d = (let more : suc n ≤ d = ltb-false _ _ t in omega arith) in
+        subst P same last
+
+module _ (clock rate : ℕ) where
+  abbrev far : ℕ → ℕ
+  far d = distance clock rate d
+
+  -- the next divisor is nearer than what was found
+  taken : (n d : ℕ) → Nearest n clock rate d → far (suc n) < far d → Nearest (suc n) clock rate (suc n)
+  taken n d p h =
+      record {
+        from-one = omega arith;
+        to-most = omega arith;
+        none-nearer = λ e one most. up-to (λ (e : ℕ). far (suc n) ≤ far e) n e most
+            (λ below. let near : far d ≤ far e = p .none-nearer e one below in omega arith)
+            (omega arith);
+        none-smaller = λ e one most same. up-to (λ (e : ℕ). far e ≡ far (suc n) → suc n ≤ e) n e most
+            (λ below eq. let near : far d ≤ far e = p .none-nearer e one below in omega arith)
+            (λ eq. omega arith)
+            same;
+      }
+
+  -- it is not
+  passed : (n d : ℕ) → Nearest n clock rate d → far d ≤ far (suc n) → Nearest (suc n) clock rate d
+  passed n d p h =
+      record {
+        from-one = p .from-one;
+        to-most = (let most : d ≤ n = p .to-most in omega arith);
+        none-nearer = λ e one most. up-to (λ (e : ℕ). far d ≤ far e) n e most (p .none-nearer e one) h;
+        none-smaller = λ e one most same. up-to (λ (e : ℕ). far e ≡ far d → d ≤ e) n e most
+            (p .none-smaller e one)
+            (λ eq. let most : d ≤ n = p .to-most in omega arith)
+            same;
+      }
+
+  -- of divisor 1 alone
+  first-found : Nearest 1 clock rate 1
+  first-found =
+      record {
+        from-one = omega arith;
+        to-most = omega arith;
+        none-nearer = λ e one most. let same : 1 ≡ e = omega arith in subst (λ (e : ℕ). distance clock rate 1 ≤ distance clock rate e) same (le-refl _);
+        none-smaller = λ e one most same. one;
+      }
+
+  -- the divisor that is found among those from 1 up
+  pub found : (n : ℕ) → Nearest (suc n) clock rate (nearestUpTo (suc n) clock rate)
+  unfolding nearestUpTo
+  found zero =
+      by-test (λ (r : ℕ). Nearest 1 clock rate r) (ltb (distance clock rate 1) (distance clock rate 1)) _ _
+      (λ _. first-found)
+      (λ _. first-found)
+  found (suc n) =
+      by-test (λ (r : ℕ). Nearest (suc (suc n)) clock rate r) (ltb (distance clock rate (suc (suc n))) (distance clock rate (nearestUpTo (suc n) clock rate))) _ _
+      (λ t. taken (suc n) (nearestUpTo (suc n) clock rate) (found n) (ltb-true _ _ t))
+      (λ t. passed (suc n) (nearestUpTo (suc n) clock rate) (found n) (ltb-false _ _ t))
+
+-- what a clock and a rate within their ranges are
+pub inside : (clock rate : ℕ) → within clock rate ≡ true → (1 ≤ clock) × (clock ≤ 16000000) × (1 ≤ rate) × (rate ≤ 1000000)
+unfolding within
+inside clock rate t =
+    let least = and-left (leb 1 clock) _ t in
+    let more = and-right (leb 1 clock) _ t in
+    let rates = and-right (leb clock 16000000) _ more in
+    (leb-true _ _ least, leb-true _ _ (and-left (leb clock 16000000) _ more), leb-true _ _ (and-left (leb 1 rate) _ rates), leb-true _ _ (and-right (leb 1 rate) _ rates))
