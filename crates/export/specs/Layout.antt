@@ -3,6 +3,7 @@ use Prim.Native.Nat.{ℕ, _+_, _-_, _*_, _/_}
 use mathlib.Core.Bool.{cond}
 use mathlib.Core.List.{List, [], _∷_}
 use lib.Dec.{ltb}
+use lib.IntN.{pos}
 use lib.ListN.{replicate}
 use Rattle.device.specs.declared.State.{State}
 use Rattle.device.specs.declared.Outputs.{Outputs}
@@ -14,6 +15,7 @@ use Rattle.device.specs.declared.Ran.{Ran}
 use Rattle.capture.specs.declared.Values.{Values}
 use Rattle.client.specs.declared.Replay.{Replay}
 use Rattle.client.specs.declared.file.Progress.{Progress}
+use Rattle.rate.specs.declared.Picked.{Picked}
 use Rattle.export.specs.declared.layout.Sizes.{Sizes}
 
 -- The bytes that a value takes, and what its place is a multiple of.
@@ -123,6 +125,9 @@ replayedShape = structOf (valuesShape ∷ stateShape ∷ [])
 abbrev pub progressShape : Shape
 progressShape = structOf (word ∷ byte ∷ index ∷ valuesShape ∷ stateShape ∷ [])
 
+abbrev pub pickedShape : Shape
+pickedShape = structOf (byte ∷ word ∷ word ∷ [])
+
 -- the sizes of the structs that a caller has
 abbrev pub sizes : Sizes
 sizes =
@@ -135,6 +140,7 @@ sizes =
       ran = ranShape .size;
       replayed = replayedShape .size;
       progress = progressShape .size;
+      picked = pickedShape .size;
     }
 
 -- The specimens.
@@ -198,3 +204,6 @@ progressSpecimen =
       values = valuesSpecimen;
       state = stateSpecimen;
     }
+
+abbrev pub pickedSpecimen : Picked
+pickedSpecimen = record { number = 100; divisor = fourTimes 114; error = pos (fourTimes 115) }

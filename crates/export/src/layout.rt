@@ -7,7 +7,7 @@
 // the number answered is field 100; the byte, the ticks, the level, the ticks used and a replay's byte
 // seen are field 101; the output pins are fields 102..107; a replay's byte of the model is field 108,
 // its place field 109; a file's version, what stopped it and the records done are fields 110..112; the
-// part of the state that is bad is field 113.
+// part of the state that is bad is field 113; a divisor and its error are fields 114 and 115.
 use capture::Values;
 use client::Replay;
 use client::file::Progress;
@@ -29,8 +29,9 @@ use queue::ByteQueue;
 use queue::Entry;
 use queue::EntryQueue;
 use queue::Errors;
+use rate::Picked;
 ghost use mathlib.Core.Path.{_≡_};
-ghost use Rattle.export.specs.Layout.{sizes, stateSpecimen, answerSpecimen, lookedSpecimen, forecastedSpecimen, leveledSpecimen, ranSpecimen, valuesSpecimen, replayedSpecimen, progressSpecimen};
+ghost use Rattle.export.specs.Layout.{sizes, stateSpecimen, answerSpecimen, lookedSpecimen, forecastedSpecimen, leveledSpecimen, ranSpecimen, valuesSpecimen, replayedSpecimen, progressSpecimen, pickedSpecimen};
 
 // The sizes in bytes.
 #[repr(C)]
@@ -43,6 +44,7 @@ pub struct Sizes {
     pub ran: u32,
     pub replayed: u32,
     pub progress: u32,
+    pub picked: u32,
 }
 
 #[no_mangle]
@@ -58,6 +60,7 @@ pub extern "C" fn uart_sizes_of_structs() -> Sizes
         ran: 388,
         replayed: 400,
         progress: 416,
+        picked: 12,
     }
 }
 
@@ -225,5 +228,16 @@ pub extern "C" fn uart_specimen_progress() -> Progress
         done: 0x7070707070707070,
         values: specimen_values(),
         state: uart_specimen_state(),
+    }
+}
+
+#[no_mangle]
+pub extern "C" fn uart_specimen_picked() -> Picked
+    ensures { λ r. ⌜ r ≡ pickedSpecimen ⌝ }
+{
+    Picked {
+        number: 100,
+        divisor: 0x72727272,
+        error: 0x73737373,
     }
 }

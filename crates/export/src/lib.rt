@@ -1,6 +1,6 @@
 // The calls for programs in C, Rust and other languages, under plain names: `rt staticlib export`
 // makes the library that they link. The structs go by value, a run of records as its address and
-// length, and each call has the contract of the call of `uart`, `foretell` or `client` that it hands on.
+// length, and each call has the contract of the call of `uart`, `foretell`, `client` or `rate` that it hands on.
 // clients/tl16c750.h declares the same for C.
 pub mod layout;
 
@@ -14,6 +14,7 @@ use device::Leveled;
 use device::Looked;
 use device::Ran;
 use device::State;
+use rate::Picked;
 ghost use mathlib.Core.Path.{_≡_};
 ghost use mathlib.Core.List.{List, [], _++_};
 ghost use lib.ListN.{length, drop};
@@ -26,6 +27,7 @@ ghost use Rattle.capture.specs.Replay.{replayOf, Agrees};
 ghost use Rattle.capture.specs.Replay.{refused as «refused-at»};
 ghost use Rattle.capture_file.specs.File.{captureOf, restOf};
 ghost use Rattle.client.specs.Replay.{replayAnswer};
+ghost use Rattle.rate.specs.Rate.{divisorFor, Nearest};
 ghost use Rattle.client.specs.File.{carriedOf, beyondOf, restAnswer, ToldSoFar};
 
 // The version of the library, and of the layout of its structs: this one changes where a struct does.
@@ -37,16 +39,16 @@ pub struct Versions {
     pub layout: u32,
 }
 
-// Which library this is: 0.4.0, with the third layout.
+// Which library this is: 0.5.0, with the fourth layout.
 #[no_mangle]
 pub extern "C" fn uart_version() -> Versions
-    ensures { λ r. ⌜ r ≡ record { major = 0; minor = 4; patch = 0; layout = 3 } ⌝ }
+    ensures { λ r. ⌜ r ≡ record { major = 0; minor = 5; patch = 0; layout = 4 } ⌝ }
 {
     Versions {
         major: 0,
-        minor: 4,
+        minor: 5,
         patch: 0,
-        layout: 3,
+        layout: 4,
     }
 }
 
@@ -191,4 +193,14 @@ pub extern "C" fn uart_replay_end(p: Progress, bytes: &[u8]) -> Replay
     ensures agreed { λ r. ⌜ (ToldSoFar p → r .values .number ≡ 0 → r .values .seen ≡ r .values .model → restOf (carriedOf p) (now (bytes .entry)) .outcome ≡ Outcome.Agreed) ⌝ }
 {
     file::end(p, bytes)
+}
+
+// The divisor for a rate from a clock, and its error in parts per million. It takes no state.
+#[no_mangle]
+pub extern "C" fn uart_divisor_for(clock: u32, rate: u32) -> Picked
+    ensures outcome { λ r. ⌜ r ≡ divisorFor clock rate ⌝ }
+    ensures nearest { λ r. ⌜ (r .number ≡ 0 → Nearest 65535 clock rate (r .divisor)) ⌝ }
+    ensures no_other { λ r. ⌜ (r .number ≡ 0 → (d : ℕ) → Nearest 65535 clock rate d → d ≡ r .divisor) ⌝ }
+{
+    rate::divisor_for(clock, rate)
 }
