@@ -3,3 +3,4 @@ pub mod Texts
 pub mod Copies
 pub mod Decimals
 pub mod Splitting
+pub mod Signed

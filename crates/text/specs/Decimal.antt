@@ -3,6 +3,7 @@ use Prim.Native.Nat.{ℕ, zero, suc, _+_, _-_, _*_, _/_, _%_}
 use mathlib.Core.Bool.{Bool, true, false, cond, not, _&&_}
 use mathlib.Core.List.{List, [], _∷_, _++_}
 use lib.Dec.{leb, ltb, eqb}
+use lib.IntN.{ℤ, pos, negsuc}
 use Rattle.flag.specs.Flag.{allOf}
 use Rattle.text.specs.declared.decimal.Number.{Number}
 
@@ -51,7 +52,12 @@ decimalOf n = digitsOf 9 n
 abbrev pub longDecimalOf : ℕ → List ℕ
 longDecimalOf n = digitsOf 19 n
 
--- such a number and the byte that follows it
+-- a signed number of 32 bits: a minus sign stands before a negative one's amount
+abbrev pub signedOf : ℤ → List ℕ
+signedOf (pos n) = decimalOf n
+signedOf (negsuc n) = 45 ∷ decimalOf (suc n)
+
+-- a number of 64 bits and the byte that follows it
 abbrev pub wordOf : ℕ → ℕ → List ℕ
 wordOf n after = longDecimalOf n ++ (after ∷ [])
 

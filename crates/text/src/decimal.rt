@@ -2,9 +2,10 @@
 ghost use mathlib.Core.Path.{_≡_};
 ghost use mathlib.Core.Bool.{cond};
 ghost use Prim.Native.Nat.{_+_, _-_, _^_, _≤_, _<_};
+ghost use lib.IntN.{natAbs};
 ghost use lib.ListN.{length};
 ghost use Rattle.text.specs.Text.{Appended};
-ghost use Rattle.text.specs.Decimal.{numberAfter, numberOf, longDecimalOf, wordOf, lineOf};
+ghost use Rattle.text.specs.Decimal.{numberAfter, numberOf, longDecimalOf, signedOf, wordOf, lineOf};
 ghost use Rattle.text.specs.Decimal.{glyph as «glyph-of»};
 
 // What a word says: a number, or none.
@@ -19,6 +20,8 @@ const MOST: u64 = 4294967295;
 const ZERO: u8 = b'0';
 
 const NINE: u8 = b'9';
+
+const MINUS: u8 = b'-';
 
 // The value of a digit.
 fn digit(c: u8) -> u64
@@ -87,6 +90,29 @@ pub fn put_number(n: u64, out: &mut [u8], at: usize) -> usize
     let end = put_number(n / 10, out, at);
     out[end] = glyph(n % 10);
     end + 1
+}
+
+// The amount of a signed number, without its sign.
+fn amount(n: i32) -> u64
+    ensures { λ r. ⌜ r ≡ natAbs n ⌝ }
+{
+    let wide = n as i64;
+    if wide < 0 {
+        return -wide as u64;
+    }
+    wide as u64
+}
+
+// Puts a signed number into out from `at` on, and answers the place after it.
+pub fn put_signed(n: i32, out: &mut [u8], at: usize) -> usize
+    requires { ⌜ at + length (signedOf n) ≤ length (now out) ⌝ }
+    ensures { λ r. ⌜ Appended (now (out .entry)) at (signedOf n) (now (out .exit)) r ⌝ }
+{
+    if n < 0 {
+        out[at] = MINUS;
+        return put_number(amount(n), out, at + 1);
+    }
+    put_number(amount(n), out, at)
 }
 
 // Puts the digits of n and the byte that follows them.
