@@ -1,5 +1,5 @@
 pub mod Commands
-pub mod Writing
+pub mod Pairs
 pub mod Loading
 pub mod Reading
 pub mod Longest

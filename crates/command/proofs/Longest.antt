@@ -202,7 +202,8 @@ module _ (w : List ℕ) (ws : List (List ℕ)) (h : longestLine < length w + tot
       (row-long (text "level") _ _ (λ (e : length w ≡ 5). one-long 0 4294967295 _ ws (omega (arith, e)))
       (row-long (text "run") _ _ (λ (e : length w ≡ 3). one-long 0 4294967295 _ ws (omega (arith, e)))
       (row-long (text "replay") _ _ (λ (e : length w ≡ 6). listed-long mostRecords _ ws (omega (arith, e)))
-      (row-long (text "part") _ _ (λ (e : length w ≡ 4). bare-long _ ws (omega (arith, e))) refl)))))))))))))))
+      (row-long (text "part") _ _ (λ (e : length w ≡ 4). bare-long _ ws (omega (arith, e)))
+      (row-long (text "divisor") _ _ (λ (e : length w ≡ 7). two-long 0 4294967295 _ ws (omega (arith, e))) refl))))))))))))))))
 
 pub long-line : (l : List ℕ) → longestLine < length l → commandOf l ≡ Command.Bad
 unfolding commandOf byWords

@@ -22,13 +22,13 @@ use Rattle.command.proofs.Commands.{found}
 use Rattle.command.proofs.Loading.{no-number, one-number, none-left, one-value, numbers-none, numbers-all}
 
 -- A word that takes one number, or none, where what follows is no number.
-pub no-number-row : (w r : List ℕ) → numberOf r ≡ Number.Nothing → same w (text "write") ≡ false → same w (text "load") ≡ false → same w (text "replay") ≡ false → Command.Bad ≡ lookUp table w (words r)
+pub no-number-row : (w r : List ℕ) → numberOf r ≡ Number.Nothing → same w (text "write") ≡ false → same w (text "load") ≡ false → same w (text "divisor") ≡ false → same w (text "replay") ≡ false → Command.Bad ≡ lookUp table w (words r)
 unfolding lookUp table
-no-number-row w r e a b p = go (decLt (before 32 r) (length r))
+no-number-row w r e a b d p = go (decLt (before 32 r) (length r))
   where
     go : Dec (before 32 r < length r) → Command.Bad ≡ lookUp table w (words r)
-    go (yes h) = rw (words-split r h, led (drop (suc (before 32 r)) r) .are) (simp (a, b, p, cond-same))
-    go (no n) = rw (words-whole r (omega (arith, n, before-most 32 r))) (simp (e, a, b, p, cond-same))
+    go (yes h) = rw (words-split r h, led (drop (suc (before 32 r)) r) .are) (simp (a, b, d, p, cond-same))
+    go (no n) = rw (words-whole r (omega (arith, n, before-most 32 r))) (simp (e, a, b, d, p, cond-same))
 
 -- The row of `load`: k numbers, of those that a buffer of m takes.
 are-counted : (k m : ℕ) (ws : List (List ℕ)) → 0 < k → k ≤ m → eqb (numbersIn m ws) k ≡ areNumbers k ws
@@ -118,8 +118,8 @@ module _ (l : List ℕ) (k : ℕ) (place : k ≡ 0 + before 32 (drop 0 l)) where
     pub line-number : (c : Command) (n : ℕ) → numberOf tail ≡ Number.Value n → ((a : List ℕ) → numberOf a ≡ Number.Value n → c ≡ lookUp table (take k l) (a ∷ [])) → c ≡ commandOf l
     line-number c n e f = f tail e ∙ rw (← number-word tail n e) line-part
 
-    pub line-none : numberOf tail ≡ Number.Nothing → same (take k l) (text "write") ≡ false → same (take k l) (text "load") ≡ false → same (take k l) (text "replay") ≡ false → Command.Bad ≡ commandOf l
-    line-none e a b p = no-number-row (take k l) tail e a b p ∙ line-part
+    pub line-none : numberOf tail ≡ Number.Nothing → same (take k l) (text "write") ≡ false → same (take k l) (text "load") ≡ false → same (take k l) (text "divisor") ≡ false → same (take k l) (text "replay") ≡ false → Command.Bad ≡ commandOf l
+    line-none e a b d p = no-number-row (take k l) tail e a b d p ∙ line-part
 
 -- nothing stands beside the command
 pub no-operands : (l to : List ℕ) (c : Command) → c ≡ commandOf l → beside c ≡ 0 → take (beside c) to ≡ operandsOf l

@@ -9,6 +9,7 @@ use Rattle.flag.specs.Flag.{allOf}
 use Rattle.text.specs.declared.decimal.Number.{Number}
 use Rattle.command.specs.declared.Call.{Call}
 use Rattle.command.specs.declared.Command.{Command}
+use Rattle.command.specs.declared.Pair.{Pair}
 use Rattle.text.specs.Text.{text, same}
 use Rattle.text.specs.Decimal.{numberOf}
 use Rattle.text.specs.Words.{words}
@@ -49,6 +50,15 @@ one least most f (w ∷ v ∷ ws) = Command.Bad
 abbrev pub two : ℕ → ℕ → (ℕ → ℕ → Command) → List (List ℕ) → Command
 two least most f [] = Command.Bad
 two least most f (w ∷ ws) = ranged least most (λ n. one least most (f n) ws) (numberOf w)
+
+-- what two numbers that were read make of a command, and that neither is above the most
+abbrev pub paired : (ℕ → ℕ → Command) → Pair → Command
+paired f (Pair.Numbers a b) = f a b
+paired f Pair.Nothing = Command.Bad
+
+abbrev pub atMost : ℕ → Pair → Bool
+atMost most (Pair.Numbers a b) = leb a most && leb b most
+atMost most Pair.Nothing = true
 
 -- a word is a number
 abbrev pub isSome : Number → Bool
@@ -113,6 +123,7 @@ table =
     ∷ row "run" (one 0 4294967295 Command.Run)
     ∷ row "replay" (listed 65535 mostRecords Command.Replay)
     ∷ row "part" (bare Command.Part)
+    ∷ row "divisor" (two 0 4294967295 Command.Divisor)
     ∷ []
 
 -- the row of a word
@@ -146,6 +157,7 @@ beside (Command.Level t) = 0
 beside (Command.Run n) = 0
 beside (Command.Replay v n) = n + 1
 beside Command.Part = 0
+beside (Command.Divisor c r) = 0
 beside Command.Bad = 0
 
 -- those numbers

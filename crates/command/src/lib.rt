@@ -3,7 +3,7 @@ use text::decimal;
 use text::decimal::Number;
 use text::words;
 ghost use mathlib.Core.Path.{_≡_};
-ghost use mathlib.Core.Bool.{false};
+ghost use mathlib.Core.Bool.{true, false};
 ghost use mathlib.Core.List.{List, [], _∷_};
 ghost use Prim.Native.Nat.{ℕ, _≤_};
 ghost use lib.ListN.{length, take};
@@ -11,7 +11,7 @@ ghost use Rattle.text.specs.Text.{text};
 ghost use Rattle.text.specs.Text.{same as «same-text»};
 ghost use Rattle.text.specs.Decimal.{numberOf};
 ghost use Rattle.text.specs.Words.{words as «words-of»};
-ghost use Rattle.command.specs.Command.{mostNumbers, numbersIn, valuesOf, table, lookUp, commandOf, beside, operandsOf};
+ghost use Rattle.command.specs.Command.{mostNumbers, two, paired, atMost, numbersIn, valuesOf, table, lookUp, commandOf, beside, operandsOf};
 
 // The most numbers that a line has: a version and 1,024 records.
 pub const MOST_NUMBERS: usize = 1025;
@@ -44,7 +44,14 @@ pub enum Command {
     Run(u32),
     Replay(u32, usize),
     Part,
+    Divisor(u32, u32),
     Bad,
+}
+
+// Two numbers of a line, or none.
+enum Pair {
+    Numbers(u32, u32),
+    Nothing,
 }
 
 // The command of a word with no number after it.
@@ -110,29 +117,51 @@ fn with_number(word: &[u8], n: u32) -> Command
     Command::Bad
 }
 
+// The two numbers of a line, neither above the most.
+fn two_numbers(numbers: &[u8], most: u32) -> Pair
+    ensures { λ r. ⌜ ((f : ℕ → ℕ → Command) → paired f r ≡ two 0 most f («words-of» (now (numbers .entry)))) ⌝ }
+    ensures { λ r. ⌜ atMost most r ≡ true ⌝ }
+{
+    let end = words::word_end(numbers, 0);
+    if end == numbers.len() {
+        return Pair::Nothing;
+    }
+    let Number::Value(a) = decimal::number_of(&numbers[..end]) else {
+        return Pair::Nothing;
+    };
+    if most < a {
+        return Pair::Nothing;
+    }
+    let next = end + 1;
+    let Number::Value(b) = decimal::number_of(&numbers[next..]) else {
+        return Pair::Nothing;
+    };
+    if most < b {
+        return Pair::Nothing;
+    }
+    Pair::Numbers(a, b)
+}
+
 // The command `write` with these numbers.
 fn write(numbers: &[u8]) -> Command
     ensures { λ r. ⌜ r ≡ lookUp table (text "write") («words-of» (now (numbers .entry))) ⌝ }
     ensures { λ r. ⌜ beside r ≡ 0 ⌝ }
 {
-    let end = words::word_end(numbers, 0);
-    if end == numbers.len() {
-        return Command::Bad;
+    match two_numbers(numbers, 255) {
+        Pair::Numbers(a, b) => Command::Step(Call::Write(a as u8, b as u8)),
+        Pair::Nothing => Command::Bad,
     }
-    let Number::Value(a) = decimal::number_of(&numbers[..end]) else {
-        return Command::Bad;
-    };
-    if 255 < a {
-        return Command::Bad;
+}
+
+// The command `divisor` with these numbers.
+fn divisor(numbers: &[u8]) -> Command
+    ensures { λ r. ⌜ r ≡ lookUp table (text "divisor") («words-of» (now (numbers .entry))) ⌝ }
+    ensures { λ r. ⌜ beside r ≡ 0 ⌝ }
+{
+    match two_numbers(numbers, 4294967295) {
+        Pair::Numbers(clock, rate) => Command::Divisor(clock, rate),
+        Pair::Nothing => Command::Bad,
     }
-    let next = end + 1;
-    let Number::Value(b) = decimal::number_of(&numbers[next..]) else {
-        return Command::Bad;
-    };
-    if 255 < b {
-        return Command::Bad;
-    }
-    Command::Step(Call::Write(a as u8, b as u8))
 }
 
 // Reads the numbers of a line into `to`, and answers how many they are: 0 where one is no number, or
@@ -209,6 +238,9 @@ pub fn command_of(line: &[u8], to: &mut [u32]) -> Command
     }
     if words::same(word, b"load") {
         return load(numbers, to);
+    }
+    if words::same(word, b"divisor") {
+        return divisor(numbers);
     }
     if words::same(word, b"replay") {
         return replay(numbers, to);

@@ -71,16 +71,30 @@ slice-aggregate-same-3 c = search needs
 same-requires-3 : tie.Need-same-requires-3
 same-requires-3 c κs = search needs
 
+divisor-requires : tie.Need-divisor-requires
+divisor-requires c κs = search needs
+
+returns-4 : tie.Need-returns-4
+returns-4 c =
+    let e = line-row _ (c .before .before .before .before .before .before .before .before .before .before .before .before .before .word-end .result) (c .before .before .before .before .before .before .before .before .before .before .before .before .before .word-end .ensures .0) (omega arith) _ _ (sym (c .before .before .same3 .ensures) ∙ c .before .if4 .taken) (c .divisor .ensures .0) in
+    (e, (omega (arith, c .divisor .ensures .1), no-operands _ _ _ e (c .divisor .ensures .1)))
+
+slice-aggregate-same-4 : tie.Need-slice-aggregate-same-4
+slice-aggregate-same-4 c = search needs
+
+same-requires-4 : tie.Need-same-requires-4
+same-requires-4 c κs = search needs
+
 replay-requires : tie.Need-replay-requires
 replay-requires c κs = search needs
 
 same-length-2 : tie.Need-same-length-2
 same-length-2 c = search needs
 
-returns-4 : tie.Need-returns-4
-returns-4 c =
-    let e = line-row _ (c .before .before .before .before .before .before .before .before .before .before .before .before .before .before .before .before .word-end .result) (c .before .before .before .before .before .before .before .before .before .before .before .before .before .before .before .before .word-end .ensures .0) (omega arith) _ _ (sym (c .before .before .before .before .before .same3 .ensures) ∙ c .before .before .before .before .if4 .taken) (c .before .before .replay .ensures .0) in
-    (e, (c .before .before .replay .ensures .1 .0, line-operands _ (c .before .before .before .before .before .before .before .before .before .before .before .before .before .before .before .before .word-end .result) (c .before .before .before .before .before .before .before .before .before .before .before .before .before .before .before .before .word-end .ensures .0) (omega arith) _ _ e (c .before .before .replay .ensures .1 .1)))
+returns-5 : tie.Need-returns-5
+returns-5 c =
+    let e = line-row _ (c .before .before .before .before .before .before .before .before .before .before .before .before .before .before .before .before .before .before .before .word-end .result) (c .before .before .before .before .before .before .before .before .before .before .before .before .before .before .before .before .before .before .before .word-end .ensures .0) (omega arith) _ _ (sym (c .before .before .before .before .before .same4 .ensures) ∙ c .before .before .before .before .if5 .taken) (c .before .before .replay .ensures .0) in
+    (e, (c .before .before .replay .ensures .1 .0, line-operands _ (c .before .before .before .before .before .before .before .before .before .before .before .before .before .before .before .before .before .before .before .word-end .result) (c .before .before .before .before .before .before .before .before .before .before .before .before .before .before .before .before .before .before .before .word-end .ensures .0) (omega arith) _ _ e (c .before .before .replay .ensures .1 .1)))
 
 number-of-requires : tie.Need-number-of-requires
 number-of-requires c κs = search needs
@@ -89,19 +103,19 @@ enum-known-n : tie.Need-enum-known-n
 enum-known-n c = search needs
 
 with-number-requires : tie.Need-with-number-requires
-with-number-requires c κs = sym (c .before .before .before .before .before .same3 .ensures) ∙ c .before .before .before .before .if4 .left
+with-number-requires c κs = sym (c .before .before .before .before .before .same4 .ensures) ∙ c .before .before .before .before .if5 .left
 
 enum-told : tie.Need-enum-told
 enum-told c = search needs
 
-returns-5 : tie.Need-returns-5
-returns-5 c =
-    let e = line-number _ (c .before .before .before .before .before .before .before .before .before .before .before .before .before .before .before .before .before .word-end .result) (c .before .before .before .before .before .before .before .before .before .before .before .before .before .before .before .before .before .word-end .ensures .0) (omega arith) _ (c .before .before .n .given .0 .0) (sym (c .before .before .before .before .number-of .ensures) ∙ c .before .before .n .given .1) (c .with-number .ensures .0) in
-    (e, (omega (arith, c .with-number .ensures .1), no-operands _ _ _ e (c .with-number .ensures .1)))
-
 returns-6 : tie.Need-returns-6
 returns-6 c =
-    let e = line-none _ (c .before .before .before .before .before .before .before .before .before .before .before .before .before .before .before .word-end .result) (c .before .before .before .before .before .before .before .before .before .before .before .before .before .before .before .word-end .ensures .0) (omega arith) (sym (c .before .before .number-of .ensures) ∙ c .enum-told .given .1) (sym (c .before .before .before .before .before .before .before .before .before .before .same .ensures) ∙ c .before .before .before .before .before .before .before .before .before .if2 .left) (sym (c .before .before .before .before .before .before .before .same2 .ensures) ∙ c .before .before .before .before .before .before .if3 .left) (sym (c .before .before .before .before .same3 .ensures) ∙ c .before .before .before .if4 .left) in
+    let e = line-number _ (c .before .before .before .before .before .before .before .before .before .before .before .before .before .before .before .before .before .before .before .before .word-end .result) (c .before .before .before .before .before .before .before .before .before .before .before .before .before .before .before .before .before .before .before .before .word-end .ensures .0) (omega arith) _ (c .before .before .n .given .0 .0) (sym (c .before .before .before .before .number-of .ensures) ∙ c .before .before .n .given .1) (c .with-number .ensures .0) in
+    (e, (omega (arith, c .with-number .ensures .1), no-operands _ _ _ e (c .with-number .ensures .1)))
+
+returns-7 : tie.Need-returns-7
+returns-7 c =
+    let e = line-none _ (c .before .before .before .before .before .before .before .before .before .before .before .before .before .before .before .before .before .before .word-end .result) (c .before .before .before .before .before .before .before .before .before .before .before .before .before .before .before .before .before .before .word-end .ensures .0) (omega arith) (sym (c .before .before .number-of .ensures) ∙ c .enum-told .given .1) (sym (c .before .before .before .before .before .before .before .before .before .before .before .before .before .same .ensures) ∙ c .before .before .before .before .before .before .before .before .before .before .before .before .if2 .left) (sym (c .before .before .before .before .before .before .before .before .before .before .same2 .ensures) ∙ c .before .before .before .before .before .before .before .before .before .if3 .left) (sym (c .before .before .before .before .before .before .before .same3 .ensures) ∙ c .before .before .before .before .before .before .if4 .left) (sym (c .before .before .before .before .same4 .ensures) ∙ c .before .before .before .if5 .left) in
     (e, (omega arith, no-operands _ [] _ e refl))
 
 pub command-of-spec : {M : Type 1} → statement M
@@ -127,12 +141,16 @@ command-of-spec =
     returns-3
     slice-aggregate-same-3
     same-requires-3
+    divisor-requires
+    returns-4
+    slice-aggregate-same-4
+    same-requires-4
     replay-requires
     same-length-2
-    returns-4
+    returns-5
     number-of-requires
     enum-known-n
     with-number-requires
     enum-told
-    returns-5
-    returns-6)
+    returns-6
+    returns-7)

@@ -1,96 +1,35 @@
--- What stands before the first space is the address, and all that follows it the byte.
-use lib.Seq.{length-take-le}
-use Rattle.text.specs.Decimal.{numberOf}
-use Rattle.text.proofs.Splitting.{rest-of}
-use Rattle.command.proofs.Writing.{write-single, write-no-address, write-large-address, write-no-byte, write-large-byte, write-both}
-use Prim.Native.Nat.{_+_}
+-- The row of `write`, where the line has its two numbers.
+use Rattle.command.specs.declared.Call.{Call}
+use Rattle.command.specs.declared.Command.{Command}
+use Rattle.command.specs.Command.{paired}
+use Rattle.command.proofs.Pairs.{small-numbers, write-row}
 use mathlib.Core.Path.{refl, sym, ap, _∙_}
 use native.Mathlib.Omega.{arith}
 use borrow.Author.Needs.{needs}
 use Rattle.command.proofs.write.Statement.{statement}
 use Rattle.command.proofs.write.Tie as tie
 
-word-end-requires : tie.Need-word-end-requires
-word-end-requires c κs = search needs
-
-returns : tie.Need-returns
-returns c = (write-single _ (c .before .word-end .result) (c .before .word-end .ensures .0) (c .if1 .taken), refl)
-
-slice-aggregate-number-of : tie.Need-slice-aggregate-number-of
-slice-aggregate-number-of c = sym (length-take-le _ _ (c .before .before .word-end .ensures .1))
-
-number-of-requires : tie.Need-number-of-requires
-number-of-requires c κs = search needs
+two-numbers-requires : tie.Need-two-numbers-requires
+two-numbers-requires c κs = search needs
 
 enum-known-a : tie.Need-enum-known-a
 enum-known-a c = search needs
 
+cast-t6 : tie.Need-cast-t6
+cast-t6 c = omega (arith, small-numbers (c .before .a .given .1) (c .before .before .before .two-numbers .ensures .1) .0)
+
+cast-t7 : tie.Need-cast-t7
+cast-t7 c = omega (arith, small-numbers (c .before .a .given .1) (c .before .before .before .two-numbers .ensures .1) .1)
+
 enum-told : tie.Need-enum-told
 enum-told c = search needs
 
+returns : tie.Need-returns
+returns c = (ap (paired (λ a b. Command.Step (Call.Write a b))) (sym (c .before .a .given .1)) ∙ c .before .before .before .two-numbers .ensures .0 (λ a b. Command.Step (Call.Write a b)) ∙ write-row _, refl)
+
 returns-2 : tie.Need-returns-2
-returns-2 c = (write-no-address _ (c .before .before .before .before .before .word-end .result) (c .before .before .before .before .before .word-end .ensures .0) (omega arith) (sym (c .before .before .number-of .ensures) ∙ c .enum-told .given .1), refl)
-
-returns-3 : tie.Need-returns-3
-returns-3 c = (write-large-address _ (c .before .before .before .before .before .before .before .word-end .result) (c .before .before .before .before .before .before .before .word-end .ensures .0) (omega arith) (c .before .before .a .given .0 .0) (sym (c .before .before .before .before .number-of .ensures) ∙ c .before .before .a .given .1) (c .if2 .taken), refl)
-
-add-next : tie.Need-add-next
-add-next c = search needs
-
-sub-number-of : tie.Need-sub-number-of
-sub-number-of c = search needs
-
-part-number-of-start : tie.Need-part-number-of-start
-part-number-of-start c = search needs
-
-part-number-of-end : tie.Need-part-number-of-end
-part-number-of-end c = search needs
-
-number-of-requires-2 : tie.Need-number-of-requires-2
-number-of-requires-2 c κs = search needs
-
-enum-known-b : tie.Need-enum-known-b
-enum-known-b c = search needs
-
-enum-told-2 : tie.Need-enum-told-2
-enum-told-2 c = search needs
-
-returns-4 : tie.Need-returns-4
-returns-4 c = (write-no-byte _ (c .before .before .before .before .before .before .before .before .before .before .before .word-end .result) (c .before .before .before .before .before .before .before .before .before .before .before .word-end .ensures .0) (omega arith) (c .before .before .before .before .before .before .a .given .0 .0) (sym (c .before .before .before .before .before .before .before .before .number-of .ensures) ∙ c .before .before .before .before .before .before .a .given .1) (c .before .before .before .before .if2 .left) (ap numberOf (sym (rest-of (c .before .before .before .before .before .before .before .before .before .before .before .before .before .args .numbers .now) (c .before .before .before .before .before .before .before .before .before .before .before .word-end .result + 1))) ∙ sym (c .before .before .number-of2 .ensures) ∙ c .enum-told2 .given .1), refl)
-
-returns-5 : tie.Need-returns-5
-returns-5 c = (write-large-byte _ (c .before .before .before .before .before .before .before .before .before .before .before .before .before .word-end .result) (c .before .before .before .before .before .before .before .before .before .before .before .before .before .word-end .ensures .0) (omega arith) (c .before .before .before .before .before .before .before .before .a .given .0 .0) (sym (c .before .before .before .before .before .before .before .before .before .before .number-of .ensures) ∙ c .before .before .before .before .before .before .before .before .a .given .1) (c .before .before .before .before .before .before .if2 .left) (c .before .before .b .given .0 .0) (ap numberOf (sym (rest-of (c .before .before .before .before .before .before .before .before .before .before .before .before .before .before .before .args .numbers .now) (c .before .before .before .before .before .before .before .before .before .before .before .before .before .word-end .result + 1))) ∙ sym (c .before .before .before .before .number-of2 .ensures) ∙ c .before .before .b .given .1) (c .if3 .taken), refl)
-
-cast-t15 : tie.Need-cast-t15
-cast-t15 c = search needs
-
-cast-t16 : tie.Need-cast-t16
-cast-t16 c = search needs
-
-returns-6 : tie.Need-returns-6
-returns-6 c = (write-both _ (c .before .before .before .before .before .before .before .before .before .before .before .before .before .word-end .result) (c .before .before .before .before .before .before .before .before .before .before .before .before .before .word-end .ensures .0) (omega arith) (c .before .before .before .before .before .before .before .before .a .given .0 .0) (sym (c .before .before .before .before .before .before .before .before .before .before .number-of .ensures) ∙ c .before .before .before .before .before .before .before .before .a .given .1) (c .before .before .before .before .before .before .if2 .left) (c .before .before .b .given .0 .0) (ap numberOf (sym (rest-of (c .before .before .before .before .before .before .before .before .before .before .before .before .before .before .before .args .numbers .now) (c .before .before .before .before .before .before .before .before .before .before .before .before .before .word-end .result + 1))) ∙ sym (c .before .before .before .before .number-of2 .ensures) ∙ c .before .before .b .given .1) (c .if3 .left), refl)
+returns-2 c = (ap (paired (λ a b. Command.Step (Call.Write a b))) (sym (c .enum-told .given .1)) ∙ c .before .before .two-numbers .ensures .0 (λ a b. Command.Step (Call.Write a b)) ∙ write-row _, refl)
 
 pub write-spec : {M : Type 1} → statement M
 write-spec =
-    tie.close
-    (tie.spec
-    word-end-requires
-    returns
-    slice-aggregate-number-of
-    number-of-requires
-    enum-known-a
-    enum-told
-    returns-2
-    returns-3
-    add-next
-    sub-number-of
-    part-number-of-start
-    part-number-of-end
-    number-of-requires-2
-    enum-known-b
-    enum-told-2
-    returns-4
-    returns-5
-    cast-t15
-    cast-t16
-    returns-6)
+    tie.close (tie.spec two-numbers-requires enum-known-a cast-t6 cast-t7 enum-told returns returns-2)
