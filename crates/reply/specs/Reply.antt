@@ -1,6 +1,6 @@
 -- The calls and the numbers that they answer.
 use Prim.Native.Nat.{ℕ}
-use mathlib.Core.List.{List, [], _∷_}
+use mathlib.Core.List.{List, [], _∷_, _++_}
 use Rattle.device.specs.declared.Outputs.{Outputs}
 use Rattle.device.specs.declared.Answer.{Answer}
 use Rattle.device.specs.declared.Looked.{Looked}
@@ -9,6 +9,8 @@ use Rattle.device.specs.declared.Leveled.{Leveled}
 use Rattle.device.specs.declared.Ran.{Ran}
 use Rattle.device.specs.declared.State.{State}
 use Rattle.device.specs.Calls.{resetOf, readOf, writeOf, sinOf, modemOf, tickOf, ticksAnswer}
+use Rattle.rate.specs.declared.Picked.{Picked}
+use Rattle.text.specs.Decimal.{wordOf, signedWordOf}
 use Rattle.command.specs.declared.Call.{Call}
 
 -- a call that moves the state
@@ -48,3 +50,7 @@ partNumbers l = l .number ∷ l .part ∷ []
 -- NO USED
 abbrev pub runNumbers : Ran → List ℕ
 runNumbers r = r .number ∷ r .used ∷ []
+
+-- NO DIVISOR ERROR, a line: only the error has a sign
+unfoldable pub divisorLine : Picked → List ℕ
+divisorLine p = wordOf (p .number) 32 ++ (wordOf (p .divisor) 32 ++ signedWordOf (p .error) 10)

@@ -13,7 +13,8 @@ ghost use Rattle.device.specs.Calls.{pinsOf};
 ghost use Rattle.device.specs.Forecast.{forecastOf, levelOf};
 ghost use Rattle.text.specs.Text.{Appended};
 ghost use Rattle.text.specs.Decimal.{lineOf};
-ghost use Rattle.reply.specs.Reply.{stepOf, stepNumbers, lookNumbers, partNumbers, forecastNumbers, levelNumbers};
+ghost use Rattle.rate.specs.Rate.{divisorFor};
+ghost use Rattle.reply.specs.Reply.{stepOf, stepNumbers, lookNumbers, partNumbers, forecastNumbers, levelNumbers, divisorLine};
 
 pub fn step(s: State, c: Call) -> Answer
     ensures { λ r. ⌜ r ≡ stepOf s c ⌝ }
@@ -104,4 +105,14 @@ pub fn put_level(s: State, t: u32, out: &mut [u8], at: usize) -> usize
 {
     let a = foretell::level(s, t);
     put_pair(a.number, wide(a.level), out, at)
+}
+
+pub fn put_divisor(clock: u32, rate: u32, out: &mut [u8], at: usize) -> usize
+    requires { ⌜ at + 54 ≤ length (now out) ⌝ }
+    ensures { λ r. ⌜ Appended (now (out .entry)) at (divisorLine (divisorFor clock rate)) (now (out .exit)) r ⌝ }
+{
+    let a = rate::divisor_for(clock, rate);
+    let second = decimal::put_word(a.number as u64, b' ', out, at);
+    let third = decimal::put_word(a.divisor as u64, b' ', out, second);
+    decimal::put_signed_word(a.error, b'\n', out, third)
 }

@@ -4,6 +4,7 @@ use mathlib.Core.Path.{_≡_, refl, sym, ap, _∙_, subst}
 use mathlib.Core.Bool.{true, false, true≢false}
 use mathlib.Core.List.{List, _∷_}
 use borrow.Author.Tests.{ltb-true}
+use lib.ListN.{length}
 use native.Mathlib.Omega.{arith}
 use lib.Dec.{T}
 use lib.IntN.{ℤ, pos, negsuc, natAbs, _-ℤ_}
@@ -12,7 +13,7 @@ use mir.Syntax.{w32, w64}
 use mir.Val.{SFits, Fits, toZ, ofZ}
 use mir.ValLaws.{toZ-ofZ}
 use Rattle.text.specs.Decimal.{decimalOf, longDecimalOf, signedOf}
-use Rattle.text.proofs.Decimals.{long-decimal}
+use Rattle.text.proofs.Decimals.{long-decimal, decimal-room}
 
 -- what is taken from 0
 negated : (z : ℤ) → ltZ z (pos 0) ≡ true → pos 0 -ℤ z ≡ pos (natAbs z)
@@ -83,3 +84,8 @@ module _ (z : ℤ) (f : SFits w32 z) where
 
   pub signed-positive : ltZ z (pos 0) ≡ false → longDecimalOf (natAbs z) ≡ signedOf z
   signed-positive h = long ∙ digits-alone z h
+
+-- at most ten digits and the sign
+pub signed-room : (z : ℤ) → length (signedOf z) ≤ 11
+signed-room (pos n) = omega (arith, decimal-room n)
+signed-room (negsuc n) = omega (arith, decimal-room (suc n))

@@ -61,6 +61,10 @@ signedOf (negsuc n) = 45 ∷ decimalOf (suc n)
 abbrev pub wordOf : ℕ → ℕ → List ℕ
 wordOf n after = longDecimalOf n ++ (after ∷ [])
 
+-- a signed number and the byte that follows it
+abbrev pub signedWordOf : ℤ → ℕ → List ℕ
+signedWordOf z after = signedOf z ++ (after ∷ [])
+
 -- what follows a number in a line: a space where more numbers come, a newline at the end
 abbrev pub separator : List ℕ → ℕ
 separator [] = 10

@@ -5,7 +5,7 @@ ghost use Prim.Native.Nat.{_+_, _-_, _^_, _≤_, _<_};
 ghost use lib.IntN.{natAbs};
 ghost use lib.ListN.{length};
 ghost use Rattle.text.specs.Text.{Appended};
-ghost use Rattle.text.specs.Decimal.{numberAfter, numberOf, longDecimalOf, signedOf, wordOf, lineOf};
+ghost use Rattle.text.specs.Decimal.{numberAfter, numberOf, longDecimalOf, signedOf, wordOf, signedWordOf, lineOf};
 ghost use Rattle.text.specs.Decimal.{glyph as «glyph-of»};
 
 // What a word says: a number, or none.
@@ -104,7 +104,7 @@ fn amount(n: i32) -> u64
 }
 
 // Puts a signed number into out from `at` on, and answers the place after it.
-pub fn put_signed(n: i32, out: &mut [u8], at: usize) -> usize
+fn put_signed(n: i32, out: &mut [u8], at: usize) -> usize
     requires { ⌜ at + length (signedOf n) ≤ length (now out) ⌝ }
     ensures { λ r. ⌜ Appended (now (out .entry)) at (signedOf n) (now (out .exit)) r ⌝ }
 {
@@ -121,6 +121,16 @@ pub fn put_word(n: u64, after: u8, out: &mut [u8], at: usize) -> usize
     ensures { λ r. ⌜ Appended (now (out .entry)) at (wordOf n after) (now (out .exit)) r ⌝ }
 {
     let end = put_number(n, out, at);
+    out[end] = after;
+    end + 1
+}
+
+// Puts a signed number and the byte that follows it.
+pub fn put_signed_word(n: i32, after: u8, out: &mut [u8], at: usize) -> usize
+    requires { ⌜ at + length (signedOf n) < length (now out) ⌝ }
+    ensures { λ r. ⌜ Appended (now (out .entry)) at (signedWordOf n after) (now (out .exit)) r ⌝ }
+{
+    let end = put_signed(n, out, at);
     out[end] = after;
     end + 1
 }
