@@ -9,12 +9,13 @@ use Rattle.device.specs.Calls.{pinsOf}
 use Rattle.device.specs.Forecast.{forecastOf, levelOf, runOf}
 use Rattle.capture.specs.declared.Replayed.{Replayed}
 use Rattle.capture.specs.Replay.{replayOf}
+use Rattle.rate.specs.Rate.{divisorFor}
 use Rattle.command.specs.declared.Command.{Command}
 use Rattle.current.specs.declared.Session.{Session}
 use Rattle.text.specs.Text.{text}
 use Rattle.text.specs.Decimal.{lineOf}
 use Rattle.outcome.specs.Outcome.{outcomeLine}
-use Rattle.reply.specs.Reply.{stepOf, stepNumbers, lookNumbers, forecastNumbers, levelNumbers, partNumbers, runNumbers}
+use Rattle.reply.specs.Reply.{stepOf, stepNumbers, lookNumbers, forecastNumbers, levelNumbers, partNumbers, runNumbers, divisorLine}
 use Rattle.current.specs.Current.{held, loadedOf, currentNumbers, moved}
 
 -- replay of a line's records, which follow the version in its numbers ns
@@ -33,6 +34,7 @@ saidOf s kept ns (Command.Level t) = lineOf (levelNumbers (levelOf (s .state) t)
 saidOf s kept ns (Command.Run n) = lineOf (runNumbers (runOf (s .state) n))
 saidOf s kept ns (Command.Replay v n) = outcomeLine (replayedOf (s .state) v ns .outcome)
 saidOf s kept ns Command.Part = lineOf (partNumbers (pinsOf (s .state)))
+saidOf s kept ns (Command.Divisor c r) = divisorLine (divisorFor c r)
 saidOf s kept ns Command.Bad = text "bad\n"
 
 -- The current state after a command.
@@ -47,6 +49,7 @@ nextOf s ns (Command.Level t) = s
 nextOf s ns (Command.Run n) = moved s (runOf (s .state) n .state)
 nextOf s ns (Command.Replay v n) = moved s (replayedOf (s .state) v ns .state)
 nextOf s ns Command.Part = s
+nextOf s ns (Command.Divisor c r) = s
 nextOf s ns Command.Bad = s
 
 -- The numbers loaded last, after a command.
@@ -61,6 +64,7 @@ keptOf kept ns (Command.Level t) = kept
 keptOf kept ns (Command.Run n) = kept
 keptOf kept ns (Command.Replay v n) = kept
 keptOf kept ns Command.Part = kept
+keptOf kept ns (Command.Divisor c r) = kept
 keptOf kept ns Command.Bad = kept
 
 -- a command that leaves both as they are
@@ -75,4 +79,5 @@ changesNothing (Command.Level t) = true
 changesNothing (Command.Run n) = false
 changesNothing (Command.Replay v n) = false
 changesNothing Command.Part = true
+changesNothing (Command.Divisor c r) = true
 changesNothing Command.Bad = true

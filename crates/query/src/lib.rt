@@ -26,6 +26,7 @@ pub fn put_answer(s: Session, c: Command, kept: &[u32], out: &mut [u8], at: usiz
         Command::Forecast => reply::put_forecast(t, out, at),
         Command::Level(n) => reply::put_level(t, n, out, at),
         Command::Part => reply::put_part(t, out, at),
+        Command::Divisor(clock, rate) => reply::put_divisor(clock, rate, out, at),
         _ => buffer::put(b"bad\n", out, at),
     }
 }

@@ -30,7 +30,7 @@ records-part n l =
 
 -- The commands that `answer` leaves to `query`, by their places in the enum: they change nothing.
 abbrev pub queries : List ℕ
-queries = 2 ∷ 4 ∷ 5 ∷ 6 ∷ 9 ∷ 10 ∷ []
+queries = 2 ∷ 4 ∷ 5 ∷ 6 ∷ 9 ∷ 10 ∷ 11 ∷ []
 
 pub no-change : (c : Command) → OneOf queries (tagOf the-type c) → changesNothing c ≡ true
 no-change Command.Fresh h = absurd (miss queries 0 tt h)
@@ -43,6 +43,7 @@ no-change (Command.Level t) h = refl
 no-change (Command.Run n) h = absurd (miss queries 7 tt h)
 no-change (Command.Replay v n) h = absurd (miss queries 8 tt h)
 no-change Command.Part h = refl
+no-change (Command.Divisor c r) h = refl
 no-change Command.Bad h = refl
 
 -- what such a command leaves, and writes
@@ -58,6 +59,7 @@ unchanged s kept ns (Command.Level t) h = (refl, refl, refl)
 unchanged s kept ns (Command.Run n) h = absurd (false≢true h)
 unchanged s kept ns (Command.Replay v n) h = absurd (false≢true h)
 unchanged s kept ns Command.Part h = (refl, refl, refl)
+unchanged s kept ns (Command.Divisor c r) h = (refl, refl, refl)
 unchanged s kept ns Command.Bad h = (refl, refl, refl)
 
 module _ (s : Session) (kept line ns : List ℕ) (c : Command) (e : c ≡ commandOf line) (f : ns ≡ operandsOf line) where

@@ -35,6 +35,12 @@ enum-told-4 c = search needs
 put-part-requires : tie.Need-put-part-requires
 put-part-requires c κs = search needs
 
+enum-known-c-2 : tie.Need-enum-known-c-2
+enum-known-c-2 c = search needs
+
+put-divisor-requires : tie.Need-put-divisor-requires
+put-divisor-requires c κs = search needs
+
 slice-aggregate-put : tie.Need-slice-aggregate-put
 slice-aggregate-put c = search needs
 
@@ -77,11 +83,18 @@ unfolding saidOf
 returns-5 c = rw (c .before .before .before .before .enum-told4 .given .1) (c .before .before .put-part .ensures)
 
 same-length-6 : tie.Need-same-length-6
-same-length-6 c = c .before .before .put .kept .1 .0
+same-length-6 c = c .before .before .put-divisor .kept .1 .1 .0
 
 returns-6 : tie.Need-returns-6
 unfolding saidOf
-returns-6 c = rw (is-bad (c .before .before .before .before .before .before .before .before .before .args .c) (c .before .before .before .before .before .before .before .before .before .pre .0) (c .before .before .before .before .before .match .keys6)) (c .before .before .put .ensures)
+returns-6 c = rw (c .before .before .before .before .before .c2 .given .1) (c .before .before .put-divisor .ensures)
+
+same-length-7 : tie.Need-same-length-7
+same-length-7 c = c .before .before .put .kept .1 .0
+
+returns-7 : tie.Need-returns-7
+unfolding saidOf
+returns-7 c = rw (is-bad (c .before .before .before .before .before .before .before .before .before .args .c) (c .before .before .before .before .before .before .before .before .before .pre .0) (c .before .before .before .before .before .match .keys7)) (c .before .before .put .ensures)
 
 pub put-answer-spec : {M : Type 1} → statement M
 put-answer-spec =
@@ -97,6 +110,8 @@ put-answer-spec =
     put-level-requires
     enum-told-4
     put-part-requires
+    enum-known-c-2
+    put-divisor-requires
     slice-aggregate-put
     put-requires
     same-length
@@ -110,4 +125,6 @@ put-answer-spec =
     same-length-5
     returns-5
     same-length-6
-    returns-6)
+    returns-6
+    same-length-7
+    returns-7)
