@@ -20,7 +20,7 @@ PYTHON_LOOKS = $(PYTHON) -c 'import site, sys; sys.exit("$(PYTHONDIR)" not in si
 sources_of = $(wildcard $(patsubst %,crates/%/src/*.rt,$1 $(shell sed -n 's/^$1://p' crates.txt)))
 
 PROGRAMS = calls replay
-TOOLS = capture explain
+TOOLS = capture explain divisor-chart
 ARCHIVE = target/staticlib/libexport.a
 STATIC = $(OUT)/libtl16c750.a
 SHARED = $(OUT)/libtl16c750.so

@@ -5,7 +5,7 @@
  * A call that is refused (number above 0) hands its state back as it was, and zeros otherwise; of a
  * replay see below.
  *
- * Every field is an unsigned number, so every bit pattern of a state is a value: it is well formed
+ * Every field of a state is an unsigned number, so every bit pattern is a value: it is well formed
  * or it is refused with UART_MALFORMED, and with the part of it that is bad. So whatever memory a caller
  * hands in, every call ends and answers by number; no caller has to look first. Only the records and
  * bytes of a replay are lent, by address: as many as it says must stand there, whatever they are.
@@ -36,9 +36,9 @@ extern "C" {
 
 /* The version that this header is of; UART_LAYOUT changes where a struct does. */
 #define UART_VERSION_MAJOR 0
-#define UART_VERSION_MINOR 4
+#define UART_VERSION_MINOR 5
 #define UART_VERSION_PATCH 0
-#define UART_LAYOUT 3
+#define UART_LAYOUT 4
 
 /* The numbers answered; where two apply, the lower. */
 #define UART_DONE 0
@@ -50,6 +50,7 @@ extern "C" {
 #define UART_BAD_HEADER 6      /* replay of a file: a bad mark or a nonzero pad */
 #define UART_UNKNOWN_VERSION 7 /* replay: an unknown version */
 #define UART_BAD_RECORD 8      /* replay: a record of bad kind, with stray bits, or cut off */
+#define UART_BAD_RATE 9        /* divisor for a rate: a clock or rate outside its range */
 
 /*
  * `part` of an answer, beside UART_MALFORMED: the lowest part of the state that breaks a range, here with
@@ -251,6 +252,13 @@ struct uart_progress {
     struct uart_state state;
 };
 
+/* What the call for a divisor answers: the divisor, and its error in parts per million. */
+struct uart_picked {
+    uint8_t number;
+    uint32_t divisor;
+    int32_t error;
+};
+
 /* The library's version, and that of the layout of its structs. */
 struct uart_versions {
     uint32_t major;
@@ -283,6 +291,17 @@ struct uart_leveled uart_level(struct uart_state s, uint32_t t);
 
 /* At most n ticks, until the transmitter is empty. */
 struct uart_ran uart_run(struct uart_state s, uint32_t n);
+
+/*
+ * The divisor for a rate: of those from 1 to 65535 the one with the smallest distance between clock and
+ * 16 * divisor * rate, the smaller one on a tie. The clock is in Hz, 1 to 16,000,000; the rate is in baud,
+ * 1 to 1,000,000. DLL takes the divisor's low byte, DLM its high byte.
+ * `error` is in parts per million, (clock - 16 * divisor * rate) * 1,000,000 / (16 * divisor * rate), cut
+ * toward zero, from -999999 to 14259021: above 0 the line is faster than the rate, below 0 slower. A
+ * divisor is answered however far off it is: whether the error is small enough is for the caller to say.
+ * A clock or rate outside is refused with UART_BAD_RATE; divisor and error are then 0. It needs no state.
+ */
+struct uart_picked uart_divisor_for(uint32_t clock, uint32_t rate);
 
 /*
  * A replay of count records of a capture, without the file's header, up to the first read whose byte
@@ -409,7 +428,7 @@ static inline int uart_replay_file(FILE *file, struct uart_replayed *answer, uar
  * (UART_STATE_FIELDS; an entry's are 18..21). The answers' own fields are numbered from 100: the
  * number answered is 100, the part beside it 113, the field after these 101, the output pins 102..107,
  * the model's byte and the place of a replay 108 and 109, a file's version, what stopped it and the
- * records done 110..112.
+ * records done 110..112, a divisor and its error 114 and 115.
  */
 struct uart_sizes {
     uint32_t state;
@@ -420,6 +439,7 @@ struct uart_sizes {
     uint32_t ran;
     uint32_t replayed;
     uint32_t progress;
+    uint32_t picked;
 };
 
 struct uart_sizes uart_sizes_of_structs(void);
@@ -431,6 +451,7 @@ struct uart_leveled uart_specimen_leveled(void);
 struct uart_ran uart_specimen_ran(void);
 struct uart_replayed uart_specimen_replayed(void);
 struct uart_progress uart_specimen_progress(void);
+struct uart_picked uart_specimen_picked(void);
 
 #define UART_AT(type, field, place) \
     UART_STATIC_ASSERT(offsetof(struct type, field) == (place), #type "." #field)
@@ -529,6 +550,11 @@ UART_AT(uart_progress, stopped, 4);
 UART_AT(uart_progress, done, 8);
 UART_AT(uart_progress, values, 16);
 UART_AT(uart_progress, state, 32);
+
+UART_STATIC_ASSERT(sizeof(struct uart_picked) == 12, "uart_picked");
+UART_AT(uart_picked, number, 0);
+UART_AT(uart_picked, divisor, 4);
+UART_AT(uart_picked, error, 8);
 
 #define UART_SAME(field, place, number) memcmp(&a->field, &b->field, sizeof a->field) == 0 &&
 

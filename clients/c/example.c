@@ -41,6 +41,22 @@ static uint8_t read_register(uint8_t address)
     return done(uart_read(uart, address)).byte;
 }
 
+/* The divisor's latches for a rate. */
+static void set_rate(uint32_t clock, uint32_t rate)
+{
+    struct uart_picked picked = uart_divisor_for(clock, rate);
+
+    if (picked.number != UART_DONE) {
+        printf("refused, number %d\n", picked.number);
+        exit(EXIT_FAILURE);
+    }
+    printf("divisor at %" PRIu32 " Hz for %" PRIu32 " baud: ", clock, rate);
+    printf("%" PRIu32 ", error %" PRId32 " ppm\n", picked.divisor, picked.error);
+    write_register(UART_LCR, 0x80);
+    write_register(UART_DLL, (uint8_t)picked.divisor);
+    write_register(UART_DLM, (uint8_t)(picked.divisor >> 8));
+}
+
 static void tick(uint32_t n)
 {
     for (uint32_t i = 0; i < n; i++)
@@ -175,8 +191,7 @@ int main(void)
     uint32_t left;
 
     uart = uart_fresh();
-    write_register(UART_LCR, 0x80);
-    write_register(UART_DLL, 1);
+    set_rate(2000000, 128000);
     write_register(UART_FCR, 0x21); /* FIFO on, 64 bytes */
     write_register(UART_LCR, 0x03); /* eight bits, no parity, one stop bit */
 

@@ -1,4 +1,4 @@
-// The header in C++: a call of each kind, the file calls, and a refused state.
+// The header in C++: a call of each kind, the file calls, a divisor, and a refused state.
 #include "tl16c750.h"
 
 #include <cstdint>
@@ -28,6 +28,7 @@ int main()
     damaged.inputs.sin = 2;
     return answer.values.number == UART_DONE && answer.values.seen == answer.values.model &&
                    uart_equal(&answer.state, &fresh) && uart_read(fresh, UART_LSR).byte == 0x60 &&
+                   uart_divisor_for(3072000, 7200).error == -12345 &&
                    uart_pins(damaged).part == UART_IN_SETTINGS && uart_version().layout == UART_LAYOUT
                ? EXIT_SUCCESS
                : EXIT_FAILURE;

@@ -55,6 +55,13 @@ static void check_values(struct uart_values v)
     HAS(v, place, 109);
 }
 
+static void check_picked(struct uart_picked p)
+{
+    HAS(p, number, 100);
+    HAS(p, divisor, 114);
+    HAS(p, error, 115);
+}
+
 static void check_specimens(void)
 {
     struct uart_answer answer = uart_specimen_answer();
@@ -91,6 +98,7 @@ static void check_specimens(void)
     HAS(progress, done, 112);
     check_values(progress.values);
     check_state(progress.state);
+    check_picked(uart_specimen_picked());
 }
 
 static void check_sizes(void)
@@ -105,6 +113,7 @@ static void check_sizes(void)
     expect(sizes.ran == sizeof(struct uart_ran), "size of ran");
     expect(sizes.replayed == sizeof(struct uart_replayed), "size of replayed");
     expect(sizes.progress == sizeof(struct uart_progress), "size of progress");
+    expect(sizes.picked == sizeof(struct uart_picked), "size of picked");
 }
 
 /* A state handed in reaches the library field by field: what it is refused for, and what not. */

@@ -4,7 +4,7 @@ the same, from records and from a file."""
 import io
 import struct
 
-from tl16c750 import DLL, FCR, LCR, LSR, PLACES, THR, Refused, Uart
+from tl16c750 import DLL, DLM, FCR, LCR, LSR, PLACES, THR, Refused, Uart, divisor_for
 
 PULSES_PER_BIT = 16  # and a tick is a pulse: the divisor is 1
 BITS_PER_FRAME = 10  # start, eight data bits, stop
@@ -17,6 +17,15 @@ def refusal_of(call):
     except Refused as refusal:
         return refusal
     raise AssertionError("not refused")
+
+
+def set_rate(uart, clock, rate):
+    """The divisor's latches for a rate."""
+    divisor, error = divisor_for(clock, rate)
+    print(f"divisor at {clock} Hz for {rate} baud: {divisor}, error {error} ppm")
+    uart.write(LCR, 0x80)
+    uart.write(DLL, divisor & 0xFF)
+    uart.write(DLM, divisor >> 8)
 
 
 def print_forecast(uart):
@@ -98,8 +107,7 @@ def main():
     sout = []
 
     uart = Uart()
-    uart.write(LCR, 0x80)
-    uart.write(DLL, 1)
+    set_rate(uart, 2_000_000, 128_000)
     uart.write(FCR, 0x21)  # FIFO on, 64 bytes
     uart.write(LCR, 0x03)  # eight bits, no parity, one stop bit
 

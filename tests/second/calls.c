@@ -5,6 +5,7 @@
  */
 #include "arguments.h"
 #include "capture.h"
+#include "divisor.h"
 #include "stream.h"
 
 #include <stdlib.h>
@@ -25,7 +26,8 @@ static const char help[] =
     "\n"
     "Takes calls from standard input, one to a line, and writes a line of answer for each:\n"
     "fresh, load V1 .. V351, state, reset, read A, write A B, sin V, modem V, tick, ticks N,\n"
-    "pins, forecast, level T, run N, replay V W.., part.  Any other line is answered bad.\n"
+    "pins, forecast, level T, run N, replay V W.., part, divisor CLOCK RATE.\n"
+    "Any other line is answered bad.\n"
     "\n"
     "The exit status is 0, or 2 where an argument is unknown, or reading or writing failed.\n";
 
@@ -58,6 +60,14 @@ static void put_number(uint32_t number)
     } while (number != 0u);
     while (count > 0)
         out[out_used++] = digits[--count];
+}
+
+/* A number that may be below 0. */
+static void put_signed(int32_t number)
+{
+    if (number < 0)
+        out[out_used++] = '-';
+    put_number((uint32_t)(number < 0 ? -number : number));
 }
 
 static void put_numbers(const uint32_t *numbers, size_t count)
@@ -101,6 +111,16 @@ static void put_pair(uint32_t number, uint32_t result)
 static void put_value(struct uart_value v)
 {
     put_pair(v.number, v.value);
+}
+
+static void put_divisor(struct divisor_answer a)
+{
+    put_number(a.number);
+    out[out_used++] = ' ';
+    put_number(a.divisor);
+    out[out_used++] = ' ';
+    put_signed(a.error);
+    out[out_used++] = '\n';
 }
 
 /* ---- The calls ---- */
@@ -199,6 +219,12 @@ static void call_part(void)
     put_pair(a.number, a.part);
 }
 
+/* The current state has no part in it. */
+static void call_divisor(void)
+{
+    put_divisor(divisor_pick(given[0], given[1]));
+}
+
 /*
  * A form: its word, how many numbers follow and the range of each, and how many
  * words of any 32 bits may come after these.
@@ -229,6 +255,7 @@ static const struct form forms[] = {
     { "reset", 0, 0, 0, 0, call_reset },
     { "replay", 1, 0, 65535, MOST_WORDS, call_replay },
     { "part", 0, 0, 0, 0, call_part },
+    { "divisor", 2, 0, UINT32_MAX, 0, call_divisor },
 };
 
 /* ---- Lines ---- */

@@ -1,15 +1,16 @@
 #!/usr/bin/env python3
-"""Feeds the same random scripts and captures to two programs each and compares their answers.
+"""Feeds the same random scripts, pairs and captures to two programs each and compares their answers.
 
-usage: compare.py CALLS_A CALLS_B [--calls N] [--replays REPLAY_A REPLAY_B [--captures N]]
+usage: compare.py CALLS_A CALLS_B [--calls N] [--pairs N] [--replays REPLAY_A REPLAY_B [--captures N]]
                   [--seed S] [--save FOLDER]
 
 Scripts and captures are drawn from the seed (draws.py). CALLS_B, the second program's, answers the
 reads of the captures. At the first difference of a script it prints the calls that lead there, from
-the last `fresh` or `load` on, and both answers. A capture goes to both programs from a file and
-through a pipe in odd pieces; one that is answered differently is saved and named. Ends with 1 at a
-difference, or where less than a third of the captures is answered `differs`; else it prints how
-much was compared and ends with 0.
+the last `fresh` or `load` on, and both answers. The pairs are clocks and rates (divisors.py), each a
+line `divisor`; at the first difference it prints the line and both answers. A capture goes to both
+programs from a file and through a pipe in odd pieces; one that is answered differently is saved and
+named. Ends with 1 at a difference, or where less than a third of the captures is answered `differs`;
+else it prints how much was compared and ends with 0.
 """
 
 import argparse
@@ -18,15 +19,17 @@ import sys
 import tempfile
 
 import ask
+import divisors
 import draws
 from recorder import Recorder
 from states import picker
 
 FIRST_CHUNKS = (2000, 20000)
 CHUNK = 100000
+PAIRS_CHUNK = 20000
 
 
-# ---- Scripts ----
+# ---- Lines ----
 
 def first_difference(a, b):
     for i, (left, right) in enumerate(zip(a, b)):
@@ -34,6 +37,37 @@ def first_difference(a, b):
             return i
     return min(len(a), len(b))
 
+
+def show_difference(kind, lines, out_a, out_b, compared, start_of):
+    a = out_a.split(b"\n")
+    b = out_b.split(b"\n")
+    at = first_difference(a, b)
+    if at >= len(lines):
+        print("the answers differ after the last line")
+        return
+    print("difference at %s %d" % (kind, compared + at + 1))
+    for line in lines[start_of(lines, a, at):at + 1]:
+        print(line)
+    print("A: %s" % (a[at].decode("latin-1") if at < len(a) else "nothing"))
+    print("B: %s" % (b[at].decode("latin-1") if at < len(b) else "nothing"))
+
+
+def alike(programs, kind, lines, compared, start_of):
+    """Whether both programs answer the lines alike, after as many compared before. The first
+    difference is shown with the lines that lead there, from start_of(lines, answers, place) on."""
+    text = ("\n".join(lines) + "\n").encode("latin-1")
+    (out_a, code_a), (out_b, code_b) = (ask.answer(program, text) for program in programs)
+    if out_a != out_b:
+        show_difference(kind, lines, out_a, out_b, compared, start_of)
+        return False
+    if code_a or code_b or out_a.count(b"\n") != len(lines):
+        print("after %d %ss: A ended with %d, B with %d, %d answers to %d lines"
+              % (compared, kind, code_a, code_b, out_a.count(b"\n"), len(lines)))
+        return False
+    return True
+
+
+# ---- Scripts ----
 
 def segment_start(lines, answers, at):
     """The last `fresh` or `load` that was taken, at or before a line."""
@@ -45,41 +79,29 @@ def segment_start(lines, answers, at):
     return 0
 
 
-def show_difference(lines, out_a, out_b, compared):
-    a = out_a.split(b"\n")
-    b = out_b.split(b"\n")
-    at = first_difference(a, b)
-    if at >= len(lines):
-        print("the answers differ after the last line")
-        return
-    start = segment_start(lines, a, at)
-    print("difference at call %d" % (compared + at + 1))
-    for line in lines[start:at + 1]:
-        print(line)
-    print("A: %s" % (a[at].decode("latin-1") if at < len(a) else "nothing"))
-    print("B: %s" % (b[at].decode("latin-1") if at < len(b) else "nothing"))
-
-
-def compare_scripts(program_a, program_b, pick, calls):
-    recorder = Recorder(program_b)
+def compare_scripts(programs, pick, calls):
+    recorder = Recorder(programs[1])
     sizes = list(FIRST_CHUNKS)
     compared = 0
     while compared < calls:
         size = sizes.pop(0) if sizes else CHUNK
         lines = draws.draw_script(pick, min(size, calls - compared), recorder)
-        text = ("\n".join(lines) + "\n").encode("latin-1")
-        out_a, code_a = ask.answer(program_a, text)
-        out_b, code_b = ask.answer(program_b, text)
-        if out_a != out_b:
-            show_difference(lines, out_a, out_b, compared)
-            return False
-        if code_a or code_b or out_a.count(b"\n") != len(lines):
-            print("after %d calls: A ended with %d, B with %d, %d answers to %d calls"
-                  % (compared, code_a, code_b, out_a.count(b"\n"), len(lines)))
+        if not alike(programs, "call", lines, compared, segment_start):
             return False
         compared += len(lines)
     recorder.close()
     print("%d calls compared, no difference" % compared)
+    return True
+
+
+# ---- Pairs of a clock and a rate ----
+
+def compare_pairs(programs, pick, pairs):
+    for compared in range(0, pairs, PAIRS_CHUNK):
+        lines = divisors.draw_lines(pick, min(PAIRS_CHUNK, pairs - compared))
+        if not alike(programs, "pair", lines, compared, lambda _lines, _answers, at: at):
+            return False
+    print("%d pairs compared, no difference" % pairs)
     return True
 
 
@@ -148,12 +170,15 @@ def main():
     parser.add_argument("--replays", nargs=2)
     parser.add_argument("--seed", type=int, default=1)
     parser.add_argument("--calls", type=int, default=1000000)
+    parser.add_argument("--pairs", type=int, default=100000)
     parser.add_argument("--captures", type=int, default=1000)
     parser.add_argument("--save", default=".")
     given = parser.parse_args()
     pick = picker(given.seed)
     print("seed %d" % given.seed)
-    same = compare_scripts(given.program_a, given.program_b, pick, given.calls)
+    programs = (given.program_a, given.program_b)
+    same = (compare_scripts(programs, pick, given.calls) and
+            compare_pairs(programs, pick, given.pairs))
     if same and given.replays:
         same = compare_captures(given.program_b, given.replays, pick, given)
     sys.exit(0 if same else 1)

@@ -2,12 +2,14 @@
 
 Scripts: random well-formed states near boundaries with steps after them, sequences as a driver would
 write them, characters on SIN with and without errors, errors kept in character mode, forecasts with
-levels and runs around them, replays, states damaged in one part or two, lines of wrong form.
+levels and runs around them, replays, states damaged in one part or two, divisors for rates, lines
+of wrong form.
 Captures: the same steps as records, most of them as they are, the others damaged.
 
 pick(n) gives a random number from 0 to n - 1. The bytes of reads in records come from a recorder.
 """
 
+import divisors
 import states as st
 from recorder import utr
 from steps import Lines
@@ -128,12 +130,15 @@ BAD_LINES = (
     "level 00000000000000000001", "\xff", "tick\x0b", "quit", "# note",
     "replay", "replay 65536", "replay 1 ", "replay 01", "replay 1 4294967296", "replay 1 00",
     "replay 1" + " 0" * 1025, "replay 1" + " 4294967295" * 1025, "part 0", "part ", "parts",
+    "divisor", "divisor ", "divisor 1", "divisor 1 ", "divisor 1 2 ", "divisor 1 2 3", "divisor  1 2",
+    "divisor 01 2", "divisor 1 02", "divisor -1 2", "divisor 4294967296 1", "divisor 1 4294967296",
+    "divisors 1 2",
 )
 
 
 def any_op(pick, s):
     """One call of any kind."""
-    chance = pick(64)
+    chance = pick(66)
     if chance < 14:
         return READS[pick(len(READS))]
     if chance < 32:
@@ -156,6 +161,8 @@ def any_op(pick, s):
         return "reset" if pick(3) == 0 else "tick"
     if chance < 62:
         return refused_op(pick)
+    if chance < 64:
+        return divisors.line(*divisors.draw(pick))
     return BAD_LINES[pick(len(BAD_LINES))]
 
 

@@ -13,6 +13,7 @@ from states import PLACES
 
 TICK = b"0 0 1 0 0 0 0 0\n"
 BAD = b"bad\n"
+REFUSED = b"9 0 0\n"
 LARGEST = b"load" + b" 4294967295" * PLACES
 AGREED = b"agreed\n"
 READ_LSR = b" %d" % 0x10000560  # agrees on a fresh device
@@ -59,6 +60,17 @@ CASES += [
 CASES += [
     (b"part\n", b"0 0\n"), (b"part", b"0 0\n"), (LARGEST + b"\npart\n", b"0\n1 1\n"),
     (b"part 0\n", BAD), (b"part 1\n", BAD), (b"part \n", BAD), (b" part\n", BAD), (b"parts\n", BAD),
+]
+CASES += [
+    (b"divisor 3072000 7200\n", b"0 27 -12345\n"), (b"divisor 3072000 7200", b"0 27 -12345\n"),
+    (b"divisor 0 0\n", REFUSED), (b"divisor 4294967295 4294967295\n", REFUSED),
+    (b"divisor 15999999 1000000\n", b"0 1 0\n"), (b"divisor 16000000 1\n", b"0 65535 14259021\n"),
+    (LARGEST + b"\ndivisor 1 1000000\nstate\n", b"0\n0 1 -999999\n" + LARGEST[5:] + b"\n"),
+    (b"divisor\n", BAD), (b"divisor \n", BAD), (b"divisor 1\n", BAD), (b"divisor 1 \n", BAD),
+    (b"divisor 1 2 3\n", BAD), (b"divisor 1 2 \n", BAD), (b"divisor  1 2\n", BAD), (b"divisor 1  2\n", BAD),
+    (b"divisor 01 2\n", BAD), (b"divisor 1 02\n", BAD), (b"divisor -1 2\n", BAD), (b"divisor 1 -2\n", BAD),
+    (b"divisor 4294967296 1\n", BAD), (b"divisor 1 4294967296\n", BAD), (b"divisor 1 2\r\n", BAD),
+    (b"divisor 1\t2\n", BAD), (b"divisors 1 2\n", BAD), (b"Divisor 1 2\n", BAD), (b"divisor1 2\n", BAD),
 ]
 for length in (3831, 3832, 3833, 3834, 11275, 11276, 11277, 65535, 65536, 65537, 131072):
     CASES += [(b"y" * length, BAD), (b"y" * length + b"\n", BAD),

@@ -1,12 +1,12 @@
 #!/usr/bin/env python3
 """Breaks one rule of the model at a time and asks whether compare.py finds it.
 
-usage: mutants.py [--calls N] [--captures N] [--seed S] [--only TEXT] [--stored]
+usage: mutants.py [--calls N] [--pairs N] [--captures N] [--seed S] [--only TEXT] [--stored]
 
 Each mutant is a change of text in one C file. It is built in a folder of its own
 beside the unchanged programs; compare.py has to find a difference within the
-given calls and captures. With --stored the stored script of `calls` has to find it
-instead. Prints for each mutant where it was found.
+given calls, pairs and captures. With --stored the stored script of `calls` has to
+find it instead. Prints for each mutant where it was found.
 """
 
 import argparse
@@ -21,8 +21,8 @@ from compare import first_difference
 
 HERE = os.path.dirname(os.path.abspath(__file__))
 PROGRAMS = ("calls", "replay")
-MODEL = ("model.c", "capture.c", "stream.c", "arguments.c")
-HEADERS = ("model.h", "capture.h", "stream.h", "arguments.h")
+MODEL = ("model.c", "capture.c", "divisor.c", "stream.c", "arguments.c")
+HEADERS = ("model.h", "capture.h", "divisor.h", "stream.h", "arguments.h")
 STORED = os.path.join(HERE, "..", "..", "crates", "calls")
 
 # Where uart_part looks at each part.
@@ -51,6 +51,13 @@ LSR_CLEARS = "    u->rx_queue[0].errors = no_errors;\n    u->kept = no_errors;\n
 
 # Where a character's errors are kept.
 KEEPS = "    if (u->fifo_on == 0u)\n        keep_errors(u, &entry.errors);\n"
+
+# Where the nearest divisor so far is kept, and where clock and rate are held to their ranges.
+NEARER = "        if (distance(clock, product) < nearest) {\n"
+OUTSIDE = ("    if (clock < 1u || clock > MOST_CLOCK || rate < 1u || rate > MOST_RATE)\n"
+           "        return answer;\n")
+ERROR = "(clock - product) * MILLION / product"
+PICKED = "    put_divisor(divisor_pick(given[0], given[1]));\n"
 
 
 # Name, file, text, text in its place. The text stands exactly once in the file.
@@ -730,7 +737,77 @@ MUTANTS = [
     ("range: kept errors need data", "model.c", "    return any_error(&u->kept) <=",
      "    return (u->rx_count != 0u || any_error(&u->kept) == 0u) && any_error(&u->kept) <="),
 
+    # Divisors.
+    ("divisor: the larger on a tie", "divisor.c", NEARER, NEARER.replace("<", "<=")),
+    ("divisor: quotient rounded down", "divisor.c", NEARER,
+     "        if (divisor == 1u || product <= clock) {\n"),
+    ("divisor: quotient rounded up", "divisor.c", NEARER, "        if (product - step < clock) {\n"),
+    ("divisor: the nearest rate", "divisor.c", NEARER,
+     "        if (divisor == 1u || distance(clock, product) * found < nearest * divisor) {\n"),
+    ("divisor: from 2 on", "divisor.c", NEARER,
+     "        if (divisor == 2u || distance(clock, product) < nearest) {\n"),
+    ("divisor: 65536 too", "divisor.c", "#define MOST_DIVISOR 65535u", "#define MOST_DIVISOR 65536u"),
+    ("divisor: 65534 the largest", "divisor.c", "#define MOST_DIVISOR 65535u",
+     "#define MOST_DIVISOR 65534u"),
+    ("divisor: no largest one", "divisor.c", "#define MOST_DIVISOR 65535u",
+     "#define MOST_DIVISOR 1000000u"),
+    ("divisor: product in 32 bits", "divisor.c", "    uint64_t product = 0u;\n",
+     "    uint32_t product = 0u;\n"),
+    ("divisor: clock 0 taken", "divisor.c", "clock < 1u || ", ""),
+    ("divisor: rate 0 taken", "divisor.c", OUTSIDE,
+     "    if (rate == 0u && clock >= 1u && clock <= MOST_CLOCK) {\n"
+     "        struct divisor_answer largest = { UART_DONE, MOST_DIVISOR, 0 };\n\n"
+     "        return largest;\n    }\n" + OUTSIDE),
+    ("divisor: clock 1 refused", "divisor.c", "clock < 1u", "clock <= 1u"),
+    ("divisor: rate 1 refused", "divisor.c", "rate < 1u", "rate <= 1u"),
+    ("divisor: clock 16000000 refused", "divisor.c", "clock > MOST_CLOCK", "clock >= MOST_CLOCK"),
+    ("divisor: clock 16000001 taken", "divisor.c", "clock > MOST_CLOCK", "clock > MOST_CLOCK + 1u"),
+    ("divisor: rate 1000000 refused", "divisor.c", "rate > MOST_RATE", "rate >= MOST_RATE"),
+    ("divisor: rate 1000001 taken", "divisor.c", "rate > MOST_RATE", "rate > MOST_RATE + 1u"),
+    ("divisor: clock by its low 24 bits", "divisor.c", OUTSIDE, "    clock &= 0xFFFFFFu;\n" + OUTSIDE),
+    ("divisor: rate by its low 20 bits", "divisor.c", OUTSIDE, "    rate &= 0xFFFFFu;\n" + OUTSIDE),
+    ("divisor: 8 for 9", "divisor.h", "#define DIVISOR_OUTSIDE 9u", "#define DIVISOR_OUTSIDE 8u"),
+    ("divisor: divisor 1 beside 9", "divisor.c", "{ DIVISOR_OUTSIDE, 0u, 0 }", "{ DIVISOR_OUTSIDE, 1u, 0 }"),
+    ("divisor: the largest one beside 9", "divisor.c", OUTSIDE,
+     OUTSIDE.replace("        return", "        answer.divisor = clock > MOST_CLOCK ? MOST_DIVISOR : 0u;\n"
+                     "    if (clock < 1u || clock > MOST_CLOCK || rate < 1u || rate > MOST_RATE)\n"
+                     "        return")),
+    ("divisor: an error beside 9", "divisor.c", "{ DIVISOR_OUTSIDE, 0u, 0 }",
+     "{ DIVISOR_OUTSIDE, 0u, -MILLION }"),
+    ("error: toward minus infinity", "divisor.c", ERROR,
+     "((clock - product) * MILLION - (clock < product ? product - 1 : 0)) / product"),
+    ("error: away from zero", "divisor.c", ERROR,
+     "((clock - product) * MILLION + (clock < product ? 1 - product : product - 1)) / product"),
+    ("error: rounded", "divisor.c", ERROR,
+     "((clock - product) * MILLION + (clock < product ? -product : product) / 2) / product"),
+    ("error: over the clock", "divisor.c", ERROR, "(clock - product) * MILLION / clock"),
+    ("error: sign turned", "divisor.c", ERROR, "(product - clock) * MILLION / product"),
+    ("error: without its sign", "divisor.c", ERROR,
+     "(int64_t)distance((uint64_t)clock, (uint64_t)product) * MILLION / product"),
+    ("error: cut before the million", "divisor.c", ERROR, "(clock - product) / product * MILLION"),
+    ("error: in 32 bits", "divisor.c", ERROR,
+     "(int32_t)((clock - product) * MILLION) / (int32_t)product"),
+    ("error: 100 % at most", "divisor.c", ERROR,
+     "(clock - product > product ? product : clock - product) * MILLION / product"),
+    ("error: a minus sign before 0", "calls.c", "    if (number < 0)\n", "    if (number <= 0)\n"),
+    ("error: no minus sign", "calls.c", "    if (number < 0)\n", "    if (number > 0x7FFFFFFE)\n"),
+    ("divisor: 1 with a malformed state", "calls.c", PICKED,
+     "    struct divisor_answer malformed = { UART_MALFORMED, 0u, 0 };\n\n"
+     "    put_divisor(uart_well_formed(&current) ? divisor_pick(given[0], given[1]) : malformed);\n"),
+    ("divisor: put into the state", "calls.c", PICKED,
+     PICKED + "    current.divisor = current.k = divisor_pick(given[0], given[1]).divisor;\n"),
+    ("divisor: the state made fresh", "calls.c", PICKED, PICKED + "    uart_fresh(&current);\n"),
+    ("divisor: rate before clock", "calls.c", PICKED, PICKED.replace("given[0], given[1]", "given[1], given[0]")),
+
     # Lines.
+    ("divisor with a third number taken", "calls.c", '{ "divisor", 2, 0, UINT32_MAX, 0,',
+     '{ "divisor", 2, 0, UINT32_MAX, 1,'),
+    ("divisor with one number taken", "calls.c", '{ "divisor", 2, 0, UINT32_MAX, 0,',
+     '{ "divisor", 1, 0, UINT32_MAX, 1,'),
+    ("divisor with 0 bad", "calls.c", '{ "divisor", 2, 0, UINT32_MAX, 0,',
+     '{ "divisor", 2, 1, UINT32_MAX, 0,'),
+    ("divisor with a clock above its range bad", "calls.c", '{ "divisor", 2, 0, UINT32_MAX, 0,',
+     '{ "divisor", 2, 0, 16000000, 0,'),
     ("a state without the kept errors taken", "calls.c", '{ "load", UART_STATE_PLACES, 0,',
      '{ "load", UART_STATE_PLACES - 3u, 0,'),
     ("leading zeros taken", "calls.c", "(*first == '0' && at - first > 1) || ", ""),
@@ -826,15 +903,16 @@ def build(folder, changes):
 
 
 def found_at(good, bad, given):
-    """Where compare.py finds the difference: `call N` or `capture N`, or None."""
+    """Where compare.py finds the difference: `call N`, `pair N` or `capture N`, or None."""
     calls, replays = ([os.path.join(folder, program) for folder in (bad, good)]
                       for program in PROGRAMS)
     done = subprocess.run([sys.executable, "-B", os.path.join(HERE, "compare.py"), *calls,
                            "--seed", str(given.seed), "--calls", str(given.calls),
+                           "--pairs", str(given.pairs),
                            "--replays", *replays, "--captures", str(given.captures),
                            "--save", bad], stdout=subprocess.PIPE, check=False)
     text = done.stdout.decode("latin-1")
-    match = re.search(r"^difference at (call|capture) (\d+)$", text, re.M)
+    match = re.search(r"^difference at (call|pair|capture) (\d+)$", text, re.M)
     if match:
         return match.group(1), int(match.group(2))
     if done.returncode:
@@ -855,6 +933,7 @@ def found_in_script(bad):
 def main():
     parser = argparse.ArgumentParser(description="asks whether compare.py finds broken rules")
     parser.add_argument("--calls", type=int, default=200000)
+    parser.add_argument("--pairs", type=int, default=2000)
     parser.add_argument("--captures", type=int, default=400)
     parser.add_argument("--seed", type=int, default=1)
     parser.add_argument("--only", default="", help="text in the name, or a file")

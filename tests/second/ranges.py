@@ -5,7 +5,8 @@ against `calls`, and the part that request b names for each.
 Every random state drawn by states.py has to be well formed, and so does what
 each of some steps makes of it. Every range has to be taken at its edge; beyond it
 every call has to refuse with number 1, the state staying as it was, and `part` has
-to name the range's part, the lowest one where two are broken. A number too wide
+to name the range's part, the lowest one where two are broken; only `divisor`, which
+has no state, has to answer as ever. A number too wide
 for its register has to be refused in each of its places. So have the states of
 parts.py, each with its part.
 
@@ -23,6 +24,7 @@ STEPS = ("reset", "tick", "ticks 3", "read 0", "read 2", "read 5", "read 6", "wr
 CALLS = ("read 0", "read 8", "write 0 1", "write 9 1", "sin 0", "sin 2", "modem 1", "modem 16",
          "tick", "ticks 2", "reset")
 VALUES = ("forecast", "level 0", "level 7", "run 0", "run 9")
+DIVISOR = ("divisor 3072000 7200", "0 27 -12345")
 REPLAYS = ("replay 1", "replay 1 4294967295", "replay 2 1")
 NO_STEP = "1 0 0 0 0 0 0 0"
 NO_PINS = "1 0 0 0 0 0 0"
@@ -50,7 +52,7 @@ def well_formed(pick, count):
 
 def taken(s):
     line = st.load_line(s)
-    return [(line, "0"), ("pins", "0"), ("part", "0 0"), ("state", line[5:])]
+    return [(line, "0"), ("pins", "0"), ("part", "0 0"), DIVISOR, ("state", line[5:])]
 
 
 def refused(s, part):
@@ -61,7 +63,7 @@ def refused(s, part):
     script += [("pins", NO_PINS)]
     script += [(call, "1 0") for call in VALUES]
     script += [(call, "refused 1 0") for call in REPLAYS]
-    return script + [bad, ("state", line[5:])]
+    return script + [DIVISOR, bad, ("state", line[5:])]
 
 
 def at_edges(pick, tries):

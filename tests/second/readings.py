@@ -1,6 +1,6 @@
 #!/usr/bin/env python3
-"""Drives `calls` through the rules where document 01, or request b or c of document 02, leaves room,
-as they are read here.
+"""Drives `calls` through the rules where document 01, or request b, c or e of document 02, leaves
+room, as they are read here.
 
 Each part names the rule: a section of document 01, or what was decided beside it.
 
@@ -10,6 +10,7 @@ usage: readings.py PROGRAM
 import sys
 
 import states as st
+from divisors import MOST_CLOCK, MOST_DIVISOR, MOST_RATE, line, tie
 from rows import Rows, clocked, fifo16
 from steps import EVEN_PARITY, FCR, IER, IIR, LCR, LSR, MCR, MSR, RBR, THR
 
@@ -546,9 +547,74 @@ def kept_ranges(r):
         r.part(4)
 
 
+def nearest_products(r):
+    r.start("the divisor whose product is nearest to the clock")
+    r.picks(3072000, 7200, 0, 27, -12345)
+    r.picks(1843200, 9600, 0, 12, 0)
+    r.picks(1843200, 56000, 0, 2, 28571)
+    r.start("the distance is that of the clocks, and not of the rates")
+    r.picks(22400, 1000, 0, 1, 400000)  # divisor 1 gives the rate 1400, 2 gives 700
+    r.picks(39200, 1000, 0, 2, 225000)  # divisor 2 gives 1225, 3 gives 817
+    r.start("divisor 1 where the quotient is 0, 65535 where it is above")
+    r.picks(1, MOST_RATE, 0, 1, -999999)
+    r.picks(7999999, MOST_RATE, 0, 1, -500000)
+    r.picks(16 * 65535, 1, 0, MOST_DIVISOR, 0)
+    r.picks(16 * 65536, 1, 0, MOST_DIVISOR, 15)
+    r.picks(MOST_CLOCK, 1, 0, MOST_DIVISOR, 14259021)
+
+
+def smaller_on_a_tie(r):
+    r.start("the smaller divisor on a tie, the nearer one a tick beside it")
+    r.picks(24000, 1000, 0, 1, 500000)
+    for divisor, rate in ((1, 1), (1, 666666), (2, 9600), (8, 115200), (416, 1200), (65534, 1),
+                          (65534, 15)):
+        for beside, nearest in ((-1, divisor), (0, divisor), (1, divisor + 1)):
+            r.call(line(tie(divisor, rate) + beside, rate), 1, nearest)
+    r.call(line(tie(MOST_DIVISOR, 1) + 1, 1), 1, MOST_DIVISOR)
+
+
+def cut_errors(r):
+    r.start("the error of the divisor chosen, cut toward zero")
+    for beside, error in ((15, 0), (16, 1), (17, 1), (31, 1), (32, 2), (33, 2)):
+        r.picks(MOST_CLOCK - beside, MOST_RATE, 0, 1, -error)
+    for beside, error in ((7, 0), (8, 1), (9, 1), (15, 1), (16, 2), (17, 2)):
+        r.picks(MOST_CLOCK // 2 - beside, MOST_RATE // 2, 0, 1, -error)
+        r.picks(MOST_CLOCK // 2 + beside, MOST_RATE // 2, 0, 1, error)
+    r.picks(47, 3, 0, 1, -20833)
+    r.picks(49, 3, 0, 1, 20833)
+
+
+def outside_the_ranges(r):
+    r.start("9 for a clock or a rate outside, 0 too")
+    for clock in (0, MOST_CLOCK + 1, 1 << 24, st.BIGGEST):
+        for rate in (0, 1, 7200, MOST_RATE, MOST_RATE + 1, st.BIGGEST):
+            r.picks(clock, rate, 9, 0, 0)
+    for rate in (0, MOST_RATE + 1, 1 << 20, st.BIGGEST):
+        for clock in (1, 3072000, MOST_CLOCK):
+            r.picks(clock, rate, 9, 0, 0)
+    r.start("the ends of both ranges are inside")
+    r.picks(1, 1, 0, 1, -937500)
+    r.picks(1, MOST_RATE, 0, 1, -999999)
+    r.picks(MOST_CLOCK, 1, 0, MOST_DIVISOR, 14259021)
+    r.picks(MOST_CLOCK, MOST_RATE, 0, 1, 0)
+
+
+def divisor_and_state(r):
+    damaged = clocked()
+    damaged[st.SIN] = 2
+    for s, part in ((clocked(divisor=26, k=26), 0), (damaged, 2), ([st.BIGGEST] * st.PLACES, 1)):
+        r.start("the state has no part in the divisor for a rate, and stays: never 1", s)
+        r.picks(3072000, 7200, 0, 27, -12345)
+        r.picks(0, 7200, 9, 0, 0)
+        r.part(part)
+        for place in (st.IER, st.DIVISOR, st.K, st.SIN, st.KEPT_BI):
+            r.call("state", place, s[place])
+
+
 ALL_PARTS = (state_1_to_7, ends_of_steps, numbers, registers_14_to_20, pulses_21_to_25,
              narrow_places, part_beside_a_number, places_of_parts, joined_parts, wide_numbers,
-             kept_until_lsr, kept_by_each, kept_without_data, kept_over_fcr, kept_ranges)
+             kept_until_lsr, kept_by_each, kept_without_data, kept_over_fcr, kept_ranges,
+             nearest_products, smaller_on_a_tie, cut_errors, outside_the_ranges, divisor_and_state)
 
 
 def main():

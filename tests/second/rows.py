@@ -7,6 +7,7 @@ usage: rows.py PROGRAM
 import sys
 
 import ask
+import divisors
 import states as st
 from steps import FCR, IIR, LCR, LSR, MSR, RBR, THR
 
@@ -46,6 +47,11 @@ class Rows:
         """The bad part of the state, 0 where it is well formed."""
         self.call("part", 0, 1 if part else 0)
         self.call("part", 1, part)
+
+    def picks(self, clock, rate, *answer):
+        """The number, the divisor and the error for a clock and a rate."""
+        for index, want in enumerate(answer):
+            self.call(divisors.line(clock, rate), index, want)
 
     def sin_bits(self, bits):
         """Each bit for 16 pulses, with D = 1."""

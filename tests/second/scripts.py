@@ -12,6 +12,7 @@ import sys
 from itertools import product
 
 import captures
+import divisors
 import parts
 import readings
 import rows
@@ -1158,6 +1159,11 @@ BAD_LINES = (
     "LOAD" + " 0" * PLACES, "load" + "\t0" * PLACES,
     "replay", "replay ", "replay 65536", "replay 01", "replay 1 ", "replay 1  0", "replay 1 00",
     "replay 1 4294967296", "replay 1 x", "replay 1 -1", "replay -1", "Replay 1", "replay 1\t0",
+    "divisor", "divisor ", "divisor 1", "divisor 1 ", "divisor 1 2 3", "divisor 1 2 ", "divisor  1 2",
+    "divisor 1  2", "divisor 01 2", "divisor 1 02", "divisor 00 1", "divisor -1 2", "divisor 1 -2",
+    "divisor +1 2", "divisor 4294967296 1", "divisor 1 4294967296", "divisor 18446744073709551617 1",
+    "divisor 1.0 2", "divisor 1,2", "divisor x 2", "divisor 1 x", "divisor 1\t2", "divisor 1 2\r",
+    " divisor 1 2", "Divisor 1 2", "divisors 1 2", "divisor1 2", "diviso 1 2",
     "help", "quit", "exit", "?", "#", "# fresh", ";", "tick;tick", "read 5;", "'tick'", "0", "1 2",
     "x" * (LOAD - 1), "x" * LOAD, "x" * (LOAD + 1), "x" * 9000, "tick" + " " * 5000, "level " + "0" * 5000,
     " " * 4000, "load" + " 4294967295" * (PLACES + 1), "load" + " 0" * st.KEPT,
@@ -1178,6 +1184,7 @@ def bad_lines(q):
     # The right forms beside them.
     q.raw("tick", "ticks 1", "read 5", "write 7 255", "sin 1", "sin 0", "modem 15", "pins",
           "forecast", "level 0", "level 4294967295", "run 0", "run 4294967295", "reset", "fresh",
+          "divisor 3072000 7200", "divisor 0 0", "divisor 4294967295 4294967295",
           "load" + " 0" * PLACES, "load" + " 4294967295" * PLACES, "pins", "state")
 
 
@@ -1573,6 +1580,43 @@ def kept_errors(q):
         subject(q)
 
 
+def divisor_pairs(q):
+    """The chart, the ends of both ranges, ties, and other pairs at which a wrong rule shows."""
+    for pairs in (divisors.chart, divisors.ends, divisors.ties, divisors.quotients,
+                  divisors.nearest_rates, divisors.errors):
+        q.raw(*(divisors.line(*pair) for pair in pairs()))
+    q.raw(*divisors.draw_lines(st.picker(16752), 400))
+
+
+def divisor_states(q):
+    """From states that are well formed and states that are not: the answer, and the state it leaves."""
+    fifo = with_frame(with_queued(with_received(with_fifo(clocked(d=26)), 3), 0x41, 0x42), 44)
+    damaged = [list(fifo) for _ in range(4)]
+    for s, place, number in zip(damaged, (st.IER, st.DIVISOR, st.SIN, st.OE), (64, 65536, 2, BIGGEST)):
+        s[place] = number
+    for s in (st.fresh(), fifo, *bases(), *damaged, [BIGGEST] * PLACES):
+        q.load(s)
+        q.raw("forecast", "pins")
+        for clock, rate in ((3072000, 7200), (24000, 1000), (16000000, 1), (1, 1000000), (0, 7200),
+                            (3072000, 0), (16000001, 7200), (3072000, 1000001)):
+            q.raw(divisors.line(clock, rate), "part")
+        q.raw("forecast", "pins", "state")
+    # Between the steps of a driver: nothing of it is written anywhere.
+    q.fresh()
+    q.divisor(26, EIGHT_BITS)
+    q.write(THR, 0x41)
+    for clock, rate in divisors.chart():
+        q.raw(divisors.line(clock, rate), "tick", "forecast")
+    q.write(LCR, 0x80)
+    q.read(0, 1)
+    q.raw("state")
+
+
+def divisors_for_rates(q):
+    divisor_pairs(q)
+    divisor_states(q)
+
+
 def random_states(seed, count):
     def subject(q):
         """Random states near boundaries, one step, the state it leaves."""
@@ -1638,6 +1682,7 @@ SUBJECTS = (
     ("replay", "replay: outcomes, states, refusals, long lines", replays),
     ("part", "which part of a state is bad", bad_parts),
     ("kept-errors", "errors kept apart in character mode", kept_errors),
+    ("divisor", "the divisor for a rate, and its error", divisors_for_rates),
 )
 
 

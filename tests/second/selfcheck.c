@@ -16,8 +16,12 @@
  *
  * Replay: on random states and records, against the checked calls made one by
  * one, with differences and bad records put in.
+ *
+ * Divisors: the examples of document 02, request e, and random pairs of a clock and
+ * a rate, against the rounded quotient and the bounds of the error.
  */
 #include "capture.h"
+#include "divisor.h"
 
 #include <inttypes.h>
 #include <stdio.h>
@@ -32,6 +36,7 @@
 #define JOURNEY_STEPS 2000u
 #define REPLAYS 20000u
 #define REPLAY_RECORDS 40u
+#define PAIRS 20000u
 #define LONGEST_STRING (192u + 64u * 192u)
 
 static uint64_t seed = 0x16C750u;
@@ -640,6 +645,75 @@ static void check_replays(const struct uart *first)
     check_replay(&damaged, draw(3u), records, malformed, &damaged);
 }
 
+/* ---- Divisors ---- */
+
+static void fail_pair(const char *what, uint32_t clock, uint32_t rate, struct divisor_answer got)
+{
+    printf("%s: divisor %" PRIu32 " %" PRIu32 " answered %" PRIu32 " %" PRIu32 " %" PRId32 "\n", what,
+           clock, rate, got.number, got.divisor, got.error);
+    exit(EXIT_FAILURE);
+}
+
+/* A clock, a rate, and what is answered. */
+struct picked {
+    uint32_t clock;
+    uint32_t rate;
+    struct divisor_answer answer;
+};
+
+static const struct picked examples[] = {
+    { 3072000u, 7200u, { 0u, 27u, -12345 } },     { 24000u, 1000u, { 0u, 1u, 500000 } },
+    { 16000000u, 1u, { 0u, 65535u, 14259021 } },  { 1u, 1000000u, { 0u, 1u, -999999 } },
+    { 15999999u, 1000000u, { 0u, 1u, 0 } },       { 8000001u, 500000u, { 0u, 1u, 0 } },
+    { 1u, 1u, { 0u, 1u, -937500 } },              { 16000000u, 1000000u, { 0u, 1u, 0 } },
+    { 1048544u, 1u, { 0u, 65534u, 0 } },          { 1048552u, 1u, { 0u, 65534u, 7 } },
+    { 1048576u, 1u, { 0u, 65535u, 15 } },         { 0u, 1u, { 9u, 0u, 0 } },
+    { 1u, 0u, { 9u, 0u, 0 } },                    { 0u, 0u, { 9u, 0u, 0 } },
+    { 16000001u, 1u, { 9u, 0u, 0 } },             { 1u, 1000001u, { 9u, 0u, 0 } },
+    { UINT32_MAX, 1u, { 9u, 0u, 0 } },            { 1u, UINT32_MAX, { 9u, 0u, 0 } },
+    { UINT32_MAX, UINT32_MAX, { 9u, 0u, 0 } },
+};
+
+static void check_examples(void)
+{
+    for (size_t i = 0; i < sizeof examples / sizeof examples[0]; i++) {
+        struct picked p = examples[i];
+        struct divisor_answer got = divisor_pick(p.clock, p.rate);
+
+        if (got.number != p.answer.number || got.divisor != p.answer.divisor ||
+            got.error != p.answer.error)
+            fail_pair("an example", p.clock, p.rate, got);
+    }
+}
+
+/* The quotient rounded, down where it is in the middle, and brought to 1..65535. */
+static uint32_t rounded(uint32_t clock, uint32_t rate)
+{
+    uint32_t whole = clock / (16u * rate);
+    uint32_t divisor = clock % (16u * rate) > 8u * rate ? whole + 1u : whole;
+
+    if (divisor < 1u)
+        return 1u;
+    return divisor > 65535u ? 65535u : divisor;
+}
+
+/* Half of the clocks are near a middle or a product, where there is one inside. */
+static void check_pair(void)
+{
+    uint32_t rate = 1u + draw(draw(2u) != 0u ? 1000000u : 1u << draw(20u));
+    uint64_t near = (uint64_t)8u * rate * (1u + draw(1u << draw(18u))) + draw(3u) - 1u;
+    uint32_t clock = near <= 16000000u && draw(2u) != 0u ? (uint32_t)near : 1u + draw(16000000u);
+    struct divisor_answer got = divisor_pick(clock, rate);
+    int64_t product = (int64_t)16 * got.divisor * rate;
+    int64_t left = ((int64_t)clock - product) * 1000000 - got.error * product;
+
+    if (got.number != 0u || got.divisor != rounded(clock, rate))
+        fail_pair("a pair", clock, rate, got);
+    /* What the error leaves is less than one part and has the sign of the whole. */
+    if (llabs(left) >= product || (left > 0 && clock < product) || (left < 0 && clock > product))
+        fail_pair("a pair's error", clock, rate, got);
+}
+
 int main(void)
 {
     struct uart u;
@@ -679,5 +753,9 @@ int main(void)
     }
     printf("replay: %u states with %u records each as the calls one by one\n", REPLAYS,
            REPLAY_RECORDS);
+    check_examples();
+    for (uint32_t i = 0u; i < PAIRS; i++)
+        check_pair();
+    printf("divisors: %u pairs as the quotient says\n", PAIRS);
     return EXIT_SUCCESS;
 }

@@ -10,6 +10,7 @@ from tl16c750.structs import (
     Forecasted,
     Leveled,
     Looked,
+    Picked,
     Progress,
     Ran,
     Replayed,
@@ -70,6 +71,7 @@ SPECIMENS = {
         "values": VALUES,
         "state": STATE,
     },
+    Picked: {"number": 100, "divisor": four(114), "error": four(115)},
 }
 
 

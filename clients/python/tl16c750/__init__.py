@@ -1,12 +1,14 @@
 """One TL16C750 UART with its bus, serial line, modem pins and clock, over the proved library.
 
-    >>> from tl16c750 import LCR, LSR, Uart
+    >>> from tl16c750 import LCR, LSR, Uart, divisor_for
     >>> uart = Uart()
     >>> pins = uart.write(LCR, 0x03)
     >>> hex(uart.read(LSR))
     '0x60'
     >>> uart.tick(100).sout
     1
+    >>> divisor_for(3_072_000, 7200)
+    Picked(divisor=27, error=-12345)
 
 A call that is refused raises Refused, whose number is that of the table in document 01, and whose part
 says what of a malformed state is bad; the state is then as it was, or, where a replay meets a bad record,
@@ -33,6 +35,7 @@ from .uart import (
     BAD_ADDRESS,
     BAD_HEADER,
     BAD_LEVEL,
+    BAD_RATE,
     BAD_RECORD,
     DLL,
     DLM,
@@ -56,15 +59,18 @@ from .uart import (
     THR,
     UNKNOWN_VERSION,
     Difference,
+    Picked,
     Refused,
     Uart,
     __version__,
+    divisor_for,
 )
 
 __all__ = [
     "BAD_ADDRESS",
     "BAD_HEADER",
     "BAD_LEVEL",
+    "BAD_RATE",
     "BAD_RECORD",
     "DLL",
     "DLM",
@@ -99,10 +105,12 @@ __all__ = [
     "Inputs",
     "Latches",
     "Outputs",
+    "Picked",
     "Receiver",
     "Refused",
     "Registers",
     "State",
     "Uart",
     "__version__",
+    "divisor_for",
 ]

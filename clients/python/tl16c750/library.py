@@ -12,6 +12,7 @@ from .structs import (
     Forecasted,
     Leveled,
     Looked,
+    Picked,
     Progress,
     Ran,
     Replayed,
@@ -20,7 +21,7 @@ from .structs import (
     Versions,
 )
 
-LAYOUT = 3
+LAYOUT = 4
 """The layout of the structs that this package is written for."""
 
 _CALLS: dict[str, tuple[Any, ...]] = {
@@ -37,6 +38,7 @@ _CALLS: dict[str, tuple[Any, ...]] = {
     "forecast": (Forecasted, State),
     "level": (Leveled, State, c_uint32),
     "run": (Ran, State, c_uint32),
+    "divisor_for": (Picked, c_uint32, c_uint32),
     "replay": (Replayed, State, c_uint32, POINTER(c_uint32), c_size_t),
     "replay_begin": (Progress, c_char_p, c_size_t),
     "replay_more": (Progress, Progress, c_char_p, c_size_t),
@@ -44,7 +46,7 @@ _CALLS: dict[str, tuple[Any, ...]] = {
     "sizes_of_structs": (Sizes,),
 }
 
-for _struct in (State, Answer, Looked, Forecasted, Leveled, Ran, Replayed, Progress):
+for _struct in (State, Answer, Looked, Forecasted, Leveled, Ran, Replayed, Progress, Picked):
     _CALLS["specimen_" + _struct.__name__.lower()] = (_struct,)
 
 

@@ -1,8 +1,8 @@
 """The structs of the library, as tl16c750.h has them.
 
-Every field is an unsigned number of 8, 32 or 64 bits, or an array or a struct of such. A number that
-does not fit is refused at the assignment, and so is a name that is no field. Structs are compared,
-printed, copied and pickled by their fields: padding is no part of them.
+Every field is an unsigned number of 8, 32 or 64 bits, but for the signed error of a divisor, or an array
+or a struct of such. A number that does not fit is refused at the assignment, and so is a name that is no
+field. Structs are compared, printed, copied and pickled by their fields: padding is no part of them.
 """
 from __future__ import annotations
 
@@ -15,19 +15,21 @@ PLACES = 64
 
 U8 = Annotated[int, ctypes.c_uint8]
 U32 = Annotated[int, ctypes.c_uint32]
+I32 = Annotated[int, ctypes.c_int32]
 Size = Annotated[int, ctypes.c_size_t]
 
 S = TypeVar("S", bound="Struct")
 
 
-def fits(value: Any, bits: int, what: str) -> int:
+def fits(value: Any, bits: int, what: str, signed: bool = False) -> int:
     """The value, where it is a number of so many bits; a TypeError or ValueError names it otherwise."""
     try:
         number = operator.index(value)
     except TypeError:
         raise TypeError(f"{what} is a number, not {type(value).__name__}") from None
-    if not 0 <= number < 1 << bits:
-        raise ValueError(f"{what} is a number of {bits} bits, not {number}")
+    least, kind = (-1 << bits - 1, "signed number") if signed else (0, "number")
+    if not least <= number < least + (1 << bits):
+        raise ValueError(f"{what} is a {kind} of {bits} bits, not {number}")
     return number
 
 
@@ -65,7 +67,7 @@ def _rebuilt(kind: type[S], image: bytes) -> S:
 
 
 class Struct(ctypes.Structure):
-    """Unsigned numbers under names."""
+    """Numbers under names."""
 
     _kinds: ClassVar[dict[str, Any]] = {}
     _spans: ClassVar[tuple[tuple[int, int], ...]] = ()
@@ -75,7 +77,8 @@ class Struct(ctypes.Structure):
         if kind is None:
             raise AttributeError(f"{type(self).__name__} has no field {name!r}")
         if not issubclass(kind, (ctypes.Array, ctypes.Structure)):
-            value = fits(value, 8 * ctypes.sizeof(kind), f"{type(self).__name__}.{name}")
+            what = f"{type(self).__name__}.{name}"
+            value = fits(value, 8 * ctypes.sizeof(kind), what, kind is ctypes.c_int32)
         elif not isinstance(value, kind) and (issubclass(kind, ctypes.Array) or isinstance(value, tuple)):
             value = kind(*value)
         super().__setattr__(name, value)
@@ -424,6 +427,15 @@ class Progress(Struct):
 
 
 @_struct
+class Picked(Struct):
+    """What the call for a divisor answers: the divisor, and its error in parts per million."""
+
+    number: U8
+    divisor: U32
+    error: I32
+
+
+@_struct
 class Sizes(Struct):
     """The library's own size of each struct, in bytes."""
 
@@ -435,6 +447,7 @@ class Sizes(Struct):
     ran: U32
     replayed: U32
     progress: U32
+    picked: U32
 
 
 @_struct

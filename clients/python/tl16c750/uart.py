@@ -1,4 +1,4 @@
-"""The UART as an object that holds its state."""
+"""The UART as an object that holds its state, and the divisor for a rate."""
 from __future__ import annotations
 
 import array
@@ -21,7 +21,7 @@ IIR = FCR = 2
 LCR, MCR, LSR, MSR, SCR = 3, 4, 5, 6, 7
 
 MALFORMED, BAD_ADDRESS, BAD_LEVEL, NO_CLOCK, HELD_BACK = 1, 2, 3, 4, 5
-BAD_HEADER, UNKNOWN_VERSION, BAD_RECORD = 6, 7, 8
+BAD_HEADER, UNKNOWN_VERSION, BAD_RECORD, BAD_RATE = 6, 7, 8, 9
 
 # The parts of a state: registers and baud; fifo and inputs; tx and frame; rx, receiver and kept; latches.
 IN_REGISTERS, IN_SETTINGS, IN_TRANSMITTER, IN_RECEIVER, IN_LATCHES = 1, 2, 3, 4, 5
@@ -35,6 +35,7 @@ _WHY = {
     BAD_HEADER: "bad mark or nonzero pad of a capture",
     UNKNOWN_VERSION: "unknown version of a capture",
     BAD_RECORD: "record of bad kind, with stray bits, or cut off",
+    BAD_RATE: "clock not from 1 to 16000000, or rate not from 1 to 1000000",
 }
 
 _WHERE = {
@@ -92,6 +93,28 @@ class Difference(NamedTuple):
     place: int
     seen: int
     model: int
+
+
+class Picked(NamedTuple):
+    """The divisor for a rate, 1 to 65535, and its error in parts per million: above 0 the line is faster
+    than the rate, below 0 slower."""
+
+    divisor: int
+    error: int
+
+
+def divisor_for(clock: int, rate: int) -> Picked:
+    """The divisor for a rate: of those from 1 to 65535 the one with the smallest distance between clock and
+    16 * divisor * rate, the smaller one on a tie. The clock is in Hz, 1 to 16,000,000; the rate is in
+    baud, 1 to 1,000,000; others are refused with BAD_RATE. It needs no state.
+
+    The error is (clock - 16 * divisor * rate) * 1,000,000 over 16 * divisor * rate, cut toward zero, from
+    -999999 to 14259021. A divisor is answered however far off it is: whether the error is small enough is
+    for the caller to say."""
+    picked = library.uart_divisor_for(fits(clock, 32, "a clock"), fits(rate, 32, "a rate"))
+    if picked.number:
+        raise Refused(picked.number)
+    return Picked(picked.divisor, picked.error)
 
 
 def _done(answer: Any) -> Any:

@@ -2,13 +2,23 @@
 // line: the character that had begun is finished, as the part finishes it. Then replays a capture of
 // the same, from records and from a file.
 use std::error::Error;
-use tl16c750::{Refusal, Told, Uart, DLL, FCR, LCR, LSR, THR};
+use tl16c750::{divisor_for, Picked, Refusal, Told, Uart, DLL, DLM, FCR, LCR, LSR, THR};
 
 const PULSES_PER_BIT: usize = 16; // and a tick is a pulse: the divisor is 1
 const BITS_PER_FRAME: usize = 10; // start, eight data bits, stop
 
 fn number<T>(answer: Result<T, Refusal>) -> u8 {
     answer.map_or_else(|refusal| refusal.number, |_| 0)
+}
+
+// The divisor's latches for a rate.
+fn set_rate(uart: &mut Uart, clock: u32, rate: u32) -> Result<(), Refusal> {
+    let Picked { divisor, error } = divisor_for(clock, rate)?;
+    println!("divisor at {clock} Hz for {rate} baud: {divisor}, error {error} ppm");
+    uart.write(LCR, 0x80)?;
+    uart.write(DLL, divisor as u8)?;
+    uart.write(DLM, (divisor >> 8) as u8)?;
+    Ok(())
 }
 
 // The levels of SOUT, one for each tick.
@@ -96,8 +106,7 @@ fn main() -> Result<(), Box<dyn Error>> {
     let mut sout = Vec::new();
 
     let mut uart = Uart::fresh();
-    uart.write(LCR, 0x80)?;
-    uart.write(DLL, 1)?;
+    set_rate(&mut uart, 2_000_000, 128_000)?;
     uart.write(FCR, 0x21)?; // FIFO on, 64 bytes
     uart.write(LCR, 0x03)?; // eight bits, no parity, one stop bit
 

@@ -122,6 +122,8 @@ impl Refusal {
     pub const UNKNOWN_VERSION: Refusal = Refusal::numbered(7);
     /// A record of bad kind, with stray bits, or cut off.
     pub const BAD_RECORD: Refusal = Refusal::numbered(8);
+    /// A clock or rate outside its range.
+    pub const BAD_RATE: Refusal = Refusal::numbered(9);
 
     /// Number 1: the state is not well formed, and this part of it is bad.
     pub const fn malformed(part: StatePart) -> Refusal {
@@ -145,6 +147,7 @@ impl fmt::Display for Refusal {
             Refusal::BAD_HEADER => "bad mark or nonzero pad of a capture",
             Refusal::UNKNOWN_VERSION => "unknown version of a capture",
             Refusal::BAD_RECORD => "record of bad kind, with stray bits, or cut off",
+            Refusal::BAD_RATE => "clock not from 1 to 16000000, or rate not from 1 to 1000000",
             _ => "refused",
         };
         let number = self.number;
@@ -163,6 +166,39 @@ fn done<T>(number: u8, part: u8, value: T) -> Result<T, Refusal> {
     }
     let part = StatePart::of(part);
     Err(Refusal { number, part })
+}
+
+/// The divisor for a rate, and its error.
+#[derive(Clone, Copy, Debug, PartialEq, Eq, Hash)]
+pub struct Picked {
+    /// The divisor, 1..65535: DLL takes its low byte, DLM its high byte.
+    pub divisor: u32,
+    /// Its error in parts per million: above 0 the line is faster than the rate, below 0 slower.
+    pub error: i32,
+}
+
+/// The divisor for a rate: of those from 1 to 65535 the one with the smallest distance between clock and
+/// 16 × divisor × rate, the smaller one on a tie. The clock is in Hz, 1 to 16,000,000; the rate is in
+/// baud, 1 to 1,000,000; others are refused with [`Refusal::BAD_RATE`]. It needs no state.
+///
+/// The error is (clock − 16 × divisor × rate) × 1,000,000 over 16 × divisor × rate, cut toward zero, from
+/// −999999 to 14259021. A divisor is answered however far off it is: whether the error is small enough
+/// is for the caller to say.
+///
+/// ```
+/// use tl16c750::{divisor_for, Refusal};
+/// let picked = divisor_for(3_072_000, 7200)?;
+/// assert_eq!((picked.divisor, picked.error), (27, -12345));
+/// assert_eq!(divisor_for(3_072_000, 0), Err(Refusal::BAD_RATE));
+/// # Ok::<(), Refusal>(())
+/// ```
+pub fn divisor_for(clock: u32, rate: u32) -> Result<Picked, Refusal> {
+    let raw::Picked {
+        number,
+        divisor,
+        error,
+    } = raw::uart_divisor_for(clock, rate);
+    done(number, 0, Picked { divisor, error })
 }
 
 /// How a replay ended. Places count from 0 at the first record.

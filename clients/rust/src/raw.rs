@@ -1,6 +1,6 @@
 //! The structs and calls of the static library, as `tl16c750.h` has them.
 //!
-//! Every field is an unsigned number, so every bit pattern is a value.
+//! Every field is a number, so every bit pattern is a value.
 
 /// The places of each queue.
 pub const PLACES: usize = 64;
@@ -298,6 +298,18 @@ pub struct Progress {
     pub state: State,
 }
 
+/// What the call for a divisor answers.
+#[repr(C)]
+#[derive(Clone, Copy, Debug, PartialEq, Eq, Hash)]
+pub struct Picked {
+    /// 0, or the number of a refusal.
+    pub number: u8,
+    /// The divisor, 1..65535; 0 where it is refused.
+    pub divisor: u32,
+    /// Its error in parts per million.
+    pub error: i32,
+}
+
 /// The library's version, and that of the layout of its structs.
 #[repr(C)]
 #[derive(Clone, Copy, Debug, PartialEq, Eq, Hash)]
@@ -313,7 +325,7 @@ pub struct Versions {
 }
 
 /// The layout of the structs that this crate is written for.
-pub const LAYOUT: u32 = 3;
+pub const LAYOUT: u32 = 4;
 
 /// The library's own size of each struct, in bytes.
 #[repr(C)]
@@ -335,6 +347,8 @@ pub struct Sizes {
     pub replayed: u32,
     /// Of [`Progress`].
     pub progress: u32,
+    /// Of [`Picked`].
+    pub picked: u32,
 }
 
 // SAFETY: the signatures are those of crates/export, and no safe call has a condition on what it is
@@ -366,6 +380,8 @@ unsafe extern "C" {
     pub safe fn uart_level(s: State, t: u32) -> Leveled;
     /// At most n ticks, until queue and shift register are both empty.
     pub safe fn uart_run(s: State, n: u32) -> Ran;
+    /// The divisor for a rate.
+    pub safe fn uart_divisor_for(clock: u32, rate: u32) -> Picked;
     /// A replay of records.
     ///
     /// # Safety
@@ -410,4 +426,6 @@ unsafe extern "C" {
     pub safe fn uart_specimen_replayed() -> Replayed;
     /// A specimen of [`Progress`]: every byte of a field is the field's number.
     pub safe fn uart_specimen_progress() -> Progress;
+    /// A specimen of [`Picked`]: every byte of a field is the field's number.
+    pub safe fn uart_specimen_picked() -> Picked;
 }

@@ -156,6 +156,14 @@ fn fields_lie_as_in_the_specimens() {
             state: state()
         }
     );
+    assert_eq!(
+        uart_specimen_picked(),
+        Picked {
+            number: 100,
+            divisor: four(114),
+            error: four(115) as i32
+        }
+    );
 }
 
 #[test]
@@ -169,6 +177,7 @@ fn sizes_are_the_librarys() {
     assert_eq!(sizes.ran as usize, size_of::<Ran>());
     assert_eq!(sizes.replayed as usize, size_of::<Replayed>());
     assert_eq!(sizes.progress as usize, size_of::<Progress>());
+    assert_eq!(sizes.picked as usize, size_of::<Picked>());
 }
 
 #[test]

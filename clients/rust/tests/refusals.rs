@@ -104,6 +104,8 @@ fn other_refusals_have_no_part() {
 fn refusals_print_words() {
     let words = "unknown version of a capture (number 7)";
     assert_eq!(Refusal::UNKNOWN_VERSION.to_string(), words);
+    let words = "clock not from 1 to 16000000, or rate not from 1 to 1000000 (number 9)";
+    assert_eq!(Refusal::BAD_RATE.to_string(), words);
     let words = "the state is not well formed: transmit queue and frame (number 1, part 3)";
     let refusal = Refusal::malformed(StatePart::Transmitter);
     assert_eq!(refusal.to_string(), words);
