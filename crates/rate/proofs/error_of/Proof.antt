@@ -39,7 +39,7 @@ below-requires c κs =
 returns : tie.Need-returns
 returns c =
     let a = c .before .before .args in
-    toZ-ofZ w32 (c .below .result) (record { sfits = c .below .ok }) ∙ c .below .ensures ∙ sym (error-below (a .clock) (a .rate) (a .divisor) (c .before .if1 .taken))
+    toZ-ofZ w32 (c .below .result) (record { sfits = c .below .ok }) ∙ c .below .ensures ∙ sym (error-below (a .clock) (a .rate) (a .divisor) (omega arith))
 
 mul-above : tie.Need-mul-above
 mul-above c = search needs
@@ -57,7 +57,7 @@ above-requires c κs =
 returns-2 : tie.Need-returns-2
 returns-2 c =
     let a = c .before .before .args in
-    toZ-ofZ w32 (c .above .result) (record { sfits = c .above .ok }) ∙ c .above .ensures ∙ sym (error-above (a .clock) (a .rate) (a .divisor) (c .before .if1 .left))
+    toZ-ofZ w32 (c .above .result) (record { sfits = c .above .ok }) ∙ c .above .ensures ∙ sym (error-above (a .clock) (a .rate) (a .divisor) (omega arith))
 
 pub error-of-spec : {M : Type 1} → statement M
 error-of-spec =

@@ -16,12 +16,12 @@ div-quotient c = search needs
 returns : tie.Need-returns
 returns c =
     let a = c .before .args in
-    less-than-one (a .clock) (a .rate) (c .before .pre .0) (c .if1 .taken)
+    less-than-one (a .clock) (a .rate) (omega arith) (omega arith)
 
 returns-2 : tie.Need-returns-2
 returns-2 c =
     let a = c .before .before .args in
-    beyond (a .clock) (a .rate) (c .before .before .pre .0) (c .if2 .taken)
+    beyond (a .clock) (a .rate) (omega arith) (omega arith)
 
 rem-if3 : tie.Need-rem-if3
 rem-if3 c = search needs
@@ -32,7 +32,7 @@ mul-if3 c = search needs
 returns-3 : tie.Need-returns-3
 returns-3 c =
     let a = c .before .before .before .args in
-    down (a .clock) (a .rate) (c .before .before .before .pre .0) (omega arith) (omega arith) (c .if3 .taken)
+    down (a .clock) (a .rate) (omega arith) (omega arith) (omega arith) (omega arith)
 
 add-result : tie.Need-add-result
 add-result c = search needs
@@ -40,7 +40,7 @@ add-result c = search needs
 returns-4 : tie.Need-returns-4
 returns-4 c =
     let a = c .before .before .before .args in
-    up (a .clock) (a .rate) (c .before .before .before .pre .0) (omega arith) (omega arith)
+    up (a .clock) (a .rate) (omega arith) (omega arith) (omega arith)
 
 pub nearest-spec : {M : Type 1} → statement M
 nearest-spec =
