@@ -4,9 +4,10 @@ use Prim.Native.Nat.{ℕ, zero, suc, _+_, _-_, _*_, _/_, _%_, _≤_, _<_}
 use native.Mathlib.Nat.{div-add-mod', mod-lt, mul-le-mul-right, le-of-lt, le-refl}
 use native.Mathlib.Omega.{arith}
 use mathlib.Core.Path.{_≡_, refl, ap, subst}
-use mathlib.Core.Bool.{Bool, true, false}
-use lib.Dec.{ltb}
-use borrow.Author.Tests.{ltb-true, ltb-false}
+use mathlib.Core.Bool.{Bool, true, false, cond}
+use lib.Dec.{leb, ltb, eqb}
+use borrow.Author.Tests.{leb-true, leb-false, ltb-true, ltb-false, eqb-true, eqb-false}
+use Rattle.flag.proofs.Laws.{by-test}
 use Rattle.rate.specs.Rate.{distance, Nearest}
 use Rattle.rate.proofs.Distance.{distance-is, multiples}
 
@@ -40,6 +41,13 @@ claimed clock rate d one most smaller larger =
           (λ more equal. le-of-lt more)
           same;
     }
+
+-- the divisor by division
+abbrev pub byDivision : ℕ → ℕ → ℕ
+byDivision clock rate =
+    cond (eqb (clock / (16 * rate)) 0) 1
+    (cond (leb 65535 (clock / (16 * rate))) 65535
+    (cond (leb (clock % (16 * rate)) (8 * rate)) (clock / (16 * rate)) (clock / (16 * rate) + 1)))
 
 module _ (clock rate : ℕ) (h : 1 ≤ rate) where
   abbrev step : ℕ
@@ -100,3 +108,17 @@ module _ (clock rate : ℕ) (h : 1 ≤ rate) where
       claimed clock rate (clock / step + 1) (omega arith) (omega arith)
       (λ e _ less. smaller-further (clock / step + 1) e (omega arith) less)
       (λ e _ more. larger-further (clock / step + 1) e (omega arith) more)
+
+  -- so that this is the one that is claimed
+  pub divided : Nearest 65535 clock rate (byDivision clock rate)
+  divided =
+      by-test (Nearest 65535 clock rate) (eqb (clock / step) 0) _ _
+      (λ t. less-than-one (eqb-true _ _ t))
+      (λ t. by-test (Nearest 65535 clock rate) (leb 65535 (clock / step)) _ _
+      (λ u. beyond (leb-true _ _ u))
+      (λ u. by-test (Nearest 65535 clock rate) (leb (clock % step) (8 * rate)) _ _
+      (λ v. down (some t) (omega (arith, leb-false 65535 (clock / step) u)) (leb-true _ _ v))
+      (λ v. up (leb-false _ _ u) (leb-false _ _ v))))
+    where
+      some : eqb (clock / step) 0 ≡ false → 1 ≤ clock / step
+      some t = omega (arith, eqb-false (clock / step) 0 t)

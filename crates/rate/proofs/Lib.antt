@@ -2,3 +2,4 @@ pub mod Distance
 pub mod Search
 pub mod Division
 pub mod Error
+pub mod Tables

@@ -7,7 +7,7 @@ use mathlib.Core.Bool.{Bool, true, false}
 use lib.Dec.{leb, ltb}
 use borrow.Author.Tests.{leb-true, ltb-true, ltb-false}
 use Rattle.flag.proofs.Laws.{by-test, and-left, and-right}
-use Rattle.rate.specs.Rate.{distance, nearestUpTo, within, Nearest}
+use Rattle.rate.specs.Rate.{distance, nearer, nearestUpTo, within, Nearest}
 
 -- of two that are claimed neither is nearer, so that neither is smaller
 pub only-one : {most clock rate d e : ℕ} → Nearest most clock rate d → Nearest most clock rate e → d ≡ e
@@ -57,27 +57,28 @@ module _ (clock rate : ℕ) where
             same;
       }
 
-  -- of divisor 1 alone
-  first-found : Nearest 1 clock rate 1
-  first-found =
+  -- the next one is looked at
+  looked : (n d : ℕ) → Nearest n clock rate d → Nearest (suc n) clock rate (nearer clock rate d (suc n))
+  looked n d p =
+      by-test (λ (r : ℕ). Nearest (suc n) clock rate r) (ltb (far (suc n)) (far d)) (suc n) d
+      (λ t. taken n d p (ltb-true _ _ t))
+      (λ t. passed n d p (ltb-false _ _ t))
+
+  -- divisor 1, also where it is looked at again
+  first : Nearest 1 clock rate 1
+  first =
       record {
         from-one = omega arith;
         to-most = omega arith;
-        none-nearer = λ e one most. let same : 1 ≡ e = omega arith in subst (λ (e : ℕ). distance clock rate 1 ≤ distance clock rate e) same (le-refl _);
+        none-nearer = λ e one most. let same : 1 ≡ e = omega arith in subst (λ (e : ℕ). far 1 ≤ far e) same (le-refl _);
         none-smaller = λ e one most same. one;
       }
 
   -- the divisor that is found among those from 1 up
   pub found : (n : ℕ) → Nearest (suc n) clock rate (nearestUpTo (suc n) clock rate)
   unfolding nearestUpTo
-  found zero =
-      by-test (λ (r : ℕ). Nearest 1 clock rate r) (ltb (distance clock rate 1) (distance clock rate 1)) _ _
-      (λ _. first-found)
-      (λ _. first-found)
-  found (suc n) =
-      by-test (λ (r : ℕ). Nearest (suc (suc n)) clock rate r) (ltb (distance clock rate (suc (suc n))) (distance clock rate (nearestUpTo (suc n) clock rate))) _ _
-      (λ t. taken (suc n) (nearestUpTo (suc n) clock rate) (found n) (ltb-true _ _ t))
-      (λ t. passed (suc n) (nearestUpTo (suc n) clock rate) (found n) (ltb-false _ _ t))
+  found zero = by-test (λ (r : ℕ). Nearest 1 clock rate r) (ltb (far 1) (far 1)) 1 1 (λ _. first) (λ _. first)
+  found (suc n) = looked (suc n) (nearestUpTo (suc n) clock rate) (found n)
 
 -- what a clock and a rate within their ranges are
 pub inside : (clock rate : ℕ) → within clock rate ≡ true → (1 ≤ clock) × (clock ≤ 16000000) × (1 ≤ rate) × (rate ≤ 1000000)
