@@ -4,8 +4,8 @@ use native.Mathlib.Nat.{mul-comm, mul-assoc, mul-le-mul-right}
 use native.Mathlib.Omega.{arith}
 use mathlib.Core.Path.{_≡_, refl, ap, _∙_}
 use lib.Dec.{ltb}
-use lib.IntN.{ℤ, pos, negsuc, natAbs, subℕ, _-ℤ_}
-use borrow.Author.Tests.{lt-ltb, le-ltb, ltb-true, ltb-false}
+use lib.IntN.{ℤ, pos, natAbs, subℕ, _-ℤ_}
+use borrow.Author.Tests.{le-ltb, ltb-true, ltb-false}
 use Rattle.flag.proofs.Laws.{by-test}
 use Rattle.rate.specs.Rate.{clockFor, distance}
 

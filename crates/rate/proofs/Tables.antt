@@ -1,6 +1,6 @@
 -- The worked examples: what the search finds is the divisor by division, which is computed.
 use Prim.Native.Nat.{ℕ}
-use mathlib.Core.Path.{_≡_, refl, ap₂, _∙_}
+use mathlib.Core.Path.{_≡_, refl, ap₂}
 use mathlib.Core.Bool.{Bool, true, false, cond}
 use mathlib.Core.List.{List, [], _∷_, map}
 use Rattle.rate.specs.Rate.{divisorOf, errorOf, within, divisorFor}

@@ -4,9 +4,7 @@ use flag::both;
 use sheet::answer;
 use sheet::limits;
 ghost use mathlib.Core.Path.{_≡_};
-ghost use mathlib.Core.Bool.{_&&_};
 ghost use Prim.Native.Nat.{ℕ, _^_, _≤_, _<_};
-ghost use lib.Dec.{leb};
 ghost use lib.IntN.{pos, negℤ};
 ghost use Rattle.rate.specs.Rate.{Nearest, divisorFor, errorOf, within as «within-both»};
 
@@ -39,7 +37,7 @@ fn nearest(clock: u32, rate: u32) -> u32
     quotient + 1
 }
 
-// So many parts per million above.
+// An error of so many parts per million, above 0.
 fn above(parts: u64) -> i32
     requires { ⌜ parts < 2 ^ 31 ⌝ }
     ensures { λ r. ⌜ r ≡ pos parts ⌝ }
@@ -47,7 +45,7 @@ fn above(parts: u64) -> i32
     parts as i32
 }
 
-// So many parts per million below.
+// An error of so many parts per million, below 0.
 fn below(parts: u64) -> i32
     requires { ⌜ parts < 2 ^ 31 ⌝ }
     ensures { λ r. ⌜ r ≡ negℤ (pos parts) ⌝ }

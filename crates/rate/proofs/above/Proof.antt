@@ -1,7 +1,6 @@
 -- A number below 2 ^ 31 is the same with a sign.
 use mir.Syntax.{w32}
 use mir.ValLaws.{toZ-pos}
-use native.Mathlib.Omega.{arith}
 use borrow.Author.Needs.{needs}
 use Rattle.rate.proofs.above.Statement.{statement}
 use Rattle.rate.proofs.above.Tie as tie

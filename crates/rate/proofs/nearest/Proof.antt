@@ -1,6 +1,4 @@
 -- The divisor by division, in its four cases.
-use Prim.Native.Nat.{_*_, _/_, _%_, _≤_, _<_}
-use mathlib.Core.Path.{_≡_}
 use native.Mathlib.Omega.{arith}
 use borrow.Author.Needs.{needs}
 use Rattle.rate.proofs.Division.{less-than-one, beyond, down, up}
