@@ -12,10 +12,9 @@ from decimal import Decimal
 from fractions import Fraction
 
 import common
+from divisors import CHART_RATES  # found by the path that common sets
 
 USUAL = 3_072_000
-RATES = (50, 75, 110, 150, 200, 300, 600, 1200, 1800, 2000, 2400, 3600, 4800, 7200, 9600, 14400, 19200, 38400,
-         56000, 57600, 115200, 128000, 230400, 256000, 460800, 500000, 576000, 921600, 1000000)
 
 # The divisors of the sheet's tables 9 and 10, and the error in percent, where they have one.
 SHEET = {
@@ -79,7 +78,7 @@ def row(clock, rate):
 
 def chart(clock):
     """All that has to be written; at every clock one of the two highest rates at least is marked."""
-    rows = "".join(row(clock, rate) for rate in RATES)
+    rows = "".join(row(clock, rate) for rate in CHART_RATES)
     return "Divisors at %d Hz\n    rate  divisor  DLM  DLL   error, %%\n%s* the error is beyond 3 percent\n" % (
         clock, rows)
 
