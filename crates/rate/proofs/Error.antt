@@ -18,6 +18,7 @@ quot-neg : (a b : ℕ) → quotZ (negℤ (pos a)) (pos b) ≡ negℤ (pos (a / b
 quot-neg zero b = rw (zero-div b)
 quot-neg (suc a) b = refl
 
+-- The error by the side on which the clock is, as a sign and an amount.
 pub error-below : (clock rate d : ℕ) → clock < clockFor rate d → errorOf clock rate d ≡ negℤ (pos ((clockFor rate d - clock) * 1000000 / clockFor rate d))
 unfolding errorOf
 error-below clock rate d h =
@@ -28,7 +29,7 @@ pub error-above : (clock rate d : ℕ) → clockFor rate d ≤ clock → errorOf
 unfolding errorOf
 error-above clock rate d h = rw (minus clock (clockFor rate d), le-ltb _ _ h)
 
--- below by at most all of it
+-- How large the amount can be: below by at most all of it.
 pub amount-below : (clock exact : ℕ) → (exact - clock) * 1000000 / exact ≤ 1000000
 amount-below clock exact = div-le-of-le-mul exact (omega arith)
 
