@@ -5,19 +5,20 @@
  */
 #define _POSIX_C_SOURCE 200809L
 
+#include "trouble.h"
 #include "utr.h"
 
-#include <errno.h>
 #include <inttypes.h>
 #include <stdarg.h>
 #include <stdlib.h>
 #include <string.h>
 #include <unistd.h>
 
-#define TROUBLE 2
 #define MOST_LINE 200  /* bytes of a line before its comment */
 #define MOST_WORDS 8   /* of a line; a good one has three at most */
 #define MOST_TICKS UINT32_MAX /* of a line */
+
+const char tool[] = "capture";
 
 static const char help[] =
     "usage: capture <LISTING >CAPTURE\n"
@@ -37,12 +38,6 @@ static const char help[] =
     "A listing made from a capture has each record's place behind it, counted from 0 as in an answer\n"
     "of the program `replay`. The status is 0, or 2 where the input is bad, or reading or writing\n"
     "failed. The capture's format stands in docs/CAPTURE.md, installed in share/tl16c750.\n";
-
-static _Noreturn void stop(const char *what)
-{
-    fprintf(stderr, "capture: %s: %s\n", what, strerror(errno));
-    exit(TROUBLE);
-}
 
 static _Noreturn void end_message(void)
 {

@@ -3,15 +3,14 @@
  * answers are the proved library's; only the rates are this program's own.
  */
 #include "tl16c750.h"
+#include "trouble.h"
 
-#include <errno.h>
 #include <inttypes.h>
 #include <stdbool.h>
 #include <stdio.h>
 #include <stdlib.h>
 #include <string.h>
 
-#define TROUBLE 2
 #define USUAL_CLOCK 3072000
 #define MOST_ERROR 30000 /* in parts per million; a rate beyond is marked */
 
@@ -24,6 +23,8 @@ static const uint32_t rates[] = {
     2400,   3600,   4800,   7200,   9600,   14400,  19200,  38400,  56000,   57600,
     115200, 128000, 230400, 256000, 460800, 500000, 576000, 921600, 1000000,
 };
+
+const char tool[] = "divisor-chart";
 
 static const char help[] =
     "usage: divisor-chart [CLOCK]\n"
@@ -40,18 +41,6 @@ static const char help[] =
     "clock and rate 269: uart_divisor_for(3686400, 269) answers 857, as the sheet's table 9 has it for\n"
     "1843200 Hz.\n"
     "The status is 0, or 2 where an argument is bad or writing failed.\n";
-
-static _Noreturn void stop(const char *what)
-{
-    fprintf(stderr, "divisor-chart: %s: %s\n", what, strerror(errno));
-    exit(TROUBLE);
-}
-
-static _Noreturn void stop_argument(const char *what, const char *argument)
-{
-    fprintf(stderr, "divisor-chart: %s: %s; see divisor-chart --help\n", what, argument);
-    exit(TROUBLE);
-}
 
 /* An error in percent: parts per million have their fourth decimal in the last place. */
 static void print_percent(int32_t error)

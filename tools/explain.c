@@ -8,9 +8,9 @@
 #include "model.h"
 #include "names.h"
 #include "state.h"
+#include "trouble.h"
 #include "utr.h"
 
-#include <errno.h>
 #include <inttypes.h>
 #include <stdlib.h>
 #include <string.h>
@@ -19,7 +19,9 @@
 #define CONTEXT 6
 #define MOST_CONTEXT UTR_BLOCK
 
-enum status { AGREED = 0, DIFFERS = 1, REFUSED = 2, TROUBLE = 2 };
+enum status { AGREED = 0, DIFFERS = 1, REFUSED = TROUBLE };
+
+const char tool[] = "explain";
 
 static const char help[] =
     "usage: explain [--context N | --all] [CAPTURE]\n"
@@ -48,18 +50,6 @@ struct options {
 static const char *bold = "";
 static const char *red = "";
 static const char *plain = "";
-
-static _Noreturn void stop(const char *what)
-{
-    fprintf(stderr, "explain: %s: %s\n", what, strerror(errno));
-    exit(TROUBLE);
-}
-
-static _Noreturn void stop_argument(const char *what, const char *argument)
-{
-    fprintf(stderr, "explain: %s: %s; see explain --help\n", what, argument);
-    exit(TROUBLE);
-}
 
 /* ---- Places ---- */
 

@@ -1,8 +1,9 @@
--- The distance between clock and 16 × divisor × rate in natural numbers.
+-- The distance between clock and 16 × divisor × rate in natural numbers, and divisors by their order.
 use Prim.Native.Nat.{ℕ, zero, suc, _+_, _-_, _*_, _≤_, _<_, zero-le}
 use native.Mathlib.Nat.{mul-comm, mul-assoc, mul-le-mul-right}
+use native.Mathlib.Decide.{decLt}
 use native.Mathlib.Omega.{arith}
-use mathlib.Core.Path.{_≡_, refl, ap, _∙_}
+use mathlib.Core.Path.{_≡_, refl, ap, _∙_, subst}
 use lib.Dec.{ltb}
 use lib.IntN.{ℤ, pos, natAbs, subℕ, _-ℤ_}
 use borrow.Author.Tests.{le-ltb, ltb-true, ltb-false}
@@ -39,3 +40,17 @@ multiples step {d} {e} h =
     let more : suc d * step ≤ e * step = mul-le-mul-right step h in
     let same : suc d * step ≡ d * step + step = omega arith in
     omega arith
+
+-- a claim about e, which is below d, d itself or above it
+pub by-order : (P : ℕ → Type 0) (d e : ℕ) → (e < d → P e) → P d → (d < e → P e) → P e
+by-order P d e less same more = below (decLt e d)
+  where
+    above : d ≤ e → Dec (d < e) → P e
+    above h (yes k) = more k
+    above h (no n) =
+        let equal : d ≡ e = omega (arith, n) in
+        subst P equal same
+
+    below : Dec (e < d) → P e
+    below (yes h) = less h
+    below (no n) = above (omega (arith, n)) (decLt d e)

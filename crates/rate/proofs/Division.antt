@@ -3,27 +3,13 @@
 use Prim.Native.Nat.{ℕ, _+_, _-_, _*_, _/_, _%_, _≤_, _<_}
 use native.Mathlib.Nat.{div-add-mod', mod-lt, mul-le-mul-right, le-of-lt, le-refl}
 use native.Mathlib.Omega.{arith}
-use mathlib.Core.Path.{_≡_, refl, ap, subst}
-use mathlib.Core.Bool.{Bool, true, false, cond}
-use lib.Dec.{leb, ltb, eqb}
-use borrow.Author.Tests.{leb-true, leb-false, ltb-true, ltb-false, eqb-true, eqb-false}
+use mathlib.Core.Path.{_≡_, ap}
+use mathlib.Core.Bool.{false, cond}
+use lib.Dec.{leb, eqb}
+use borrow.Author.Tests.{leb-true, leb-false, eqb-true, eqb-false}
 use Rattle.flag.proofs.Laws.{by-test}
 use Rattle.rate.specs.Rate.{distance, Nearest}
-use Rattle.rate.proofs.Distance.{distance-is, multiples}
-
--- of two numbers, the first is smaller, the same or larger
-by-order : (P : ℕ → Type 0) (d e : ℕ) → (e < d → P e) → P d → (d < e → P e) → P e
-by-order P d e less same more = below (ltb e d) refl
-  where
-    above : (b : Bool) → ltb d e ≡ b → d ≤ e → P e
-    above true t h = more (ltb-true _ _ t)
-    above false t h =
-        let equal : d ≡ e = (let down : e ≤ d = ltb-false _ _ t in omega arith) in
-        subst P equal same
-
-    below : (b : Bool) → ltb e d ≡ b → P e
-    below true t = less (ltb-true _ _ t)
-    below false t = above (ltb d e) refl (ltb-false _ _ t)
+use Rattle.rate.proofs.Distance.{distance-is, multiples, by-order}
 
 -- a divisor is claimed where each smaller one is further, and no larger one nearer
 claimed : (clock rate d : ℕ) → 1 ≤ d → d ≤ 65535 → ((e : ℕ) → 1 ≤ e → e < d → distance clock rate d < distance clock rate e) → ((e : ℕ) → e ≤ 65535 → d < e → distance clock rate d ≤ distance clock rate e) → Nearest 65535 clock rate d

@@ -2,12 +2,13 @@
 use Prim.Native.Nat.{ℕ, zero, suc, _≤_, _<_}
 use native.Mathlib.Nat.{le-antisymm, le-refl}
 use native.Mathlib.Omega.{arith}
-use mathlib.Core.Path.{_≡_, refl, sym, subst}
-use mathlib.Core.Bool.{Bool, true, false}
+use mathlib.Core.Path.{_≡_, sym, subst}
+use mathlib.Core.Bool.{true}
 use lib.Dec.{leb, ltb}
 use borrow.Author.Tests.{leb-true, ltb-true, ltb-false}
 use Rattle.flag.proofs.Laws.{by-test, and-left, and-right}
 use Rattle.rate.specs.Rate.{distance, nearer, nearestUpTo, within, Nearest}
+use Rattle.rate.proofs.Distance.{by-order}
 
 -- of two that are claimed neither is nearer, so that neither is smaller
 pub only-one : {most clock rate d e : ℕ} → Nearest most clock rate d → Nearest most clock rate e → d ≡ e
@@ -17,13 +18,7 @@ only-one {most} {clock} {rate} {d} {e} p q =
 
 -- a claim about the divisors up to n and about the next one is one about those up to it
 up-to : (P : ℕ → Type 0) (n d : ℕ) → d ≤ suc n → (d ≤ n → P d) → P (suc n) → P d
-up-to P n d h below last = go (ltb d (suc n)) refl
-  where
-    go : (b : Bool) → ltb d (suc n) ≡ b → P d
-    go true t = below (let less : d < suc n = ltb-true _ _ t in omega arith)
-    go false t =
-        let same : suc n ≡ d = (let more : suc n ≤ d = ltb-false _ _ t in omega arith) in
-        subst P same last
+up-to P n d h below last = by-order P (suc n) d (λ less. below (omega arith)) last (λ more. absurd (omega arith))
 
 module _ (clock rate : ℕ) where
   abbrev far : ℕ → ℕ

@@ -24,7 +24,8 @@ distance clock rate divisor = natAbs (difference clock rate divisor)
 abbrev pub nearer : ℕ → ℕ → ℕ → ℕ → ℕ
 nearer clock rate d e = cond (ltb (distance clock rate e) (distance clock rate d)) e d
 
--- the divisor from 1 to `most` with the smallest distance, the smaller one on a tie: all are looked at, upwards from 1
+-- the divisor from 1 to `most` with the smallest distance, the smaller one on a tie: it is 1, and then each up to `most`
+-- that is nearer than those before it
 unfoldable pub nearestUpTo : ℕ → ℕ → ℕ → ℕ
 nearestUpTo zero clock rate = 1
 nearestUpTo (suc d) clock rate = nearer clock rate (nearestUpTo d clock rate) (suc d)

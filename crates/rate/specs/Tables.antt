@@ -2,7 +2,7 @@
 use Prim.Native.Nat.{ℕ}
 use mathlib.Core.Path.{_≡_}
 use mathlib.Core.List.{List, [], _∷_, map}
-use lib.IntN.{ℤ, pos, negsuc}
+use lib.IntN.{ℤ, pos, negℤ}
 use Rattle.rate.specs.declared.Picked.{Picked}
 use Rattle.rate.specs.Rate.{divisorFor, outside}
 
@@ -21,12 +21,12 @@ tableRates =
 
 pub record Tables : Type 0 where
   -- at 3,072,000 rate 7200 gives 27 and −12345 (document 02 e)
-  pub request : divisorFor 3072000 7200 ≡ picks 27 (negsuc 12344)
+  pub request : divisorFor 3072000 7200 ≡ picks 27 (negℤ (pos 12345))
   -- on a tie the smaller divisor
   pub tie : divisorFor 24000 1000 ≡ picks 1 (pos 500000)
   -- the largest divisor, and the smallest
   pub largest : divisorFor 16000000 1 ≡ picks 65535 (pos 14259021)
-  pub smallest : divisorFor 1 1000000 ≡ picks 1 (negsuc 999998)
+  pub smallest : divisorFor 1 1000000 ≡ picks 1 (negℤ (pos 999999))
   -- an error between −1 and 0
   pub cut : divisorFor 15999999 1000000 ≡ picks 1 (pos 0)
   -- outside

@@ -1,4 +1,5 @@
--- Numbers as text: decimal digits, with no sign and no leading zero.
+-- Numbers as text: decimal digits, with no leading zero. No number that is read has a sign, and of those written only a
+-- negative one.
 use Prim.Native.Nat.{ℕ, zero, suc, _+_, _-_, _*_, _/_, _%_}
 use mathlib.Core.Bool.{Bool, true, false, cond, not, _&&_}
 use mathlib.Core.List.{List, [], _∷_, _++_}

@@ -1,4 +1,4 @@
-// Decimal numbers: of 32 bits read from a word, of 64 bits written into a buffer.
+// Decimal numbers: of 32 bits read from a word; of 64 bits, and signed ones of 32, written into a buffer.
 ghost use mathlib.Core.Path.{_≡_};
 ghost use mathlib.Core.Bool.{cond};
 ghost use Prim.Native.Nat.{_+_, _-_, _^_, _≤_, _<_};
