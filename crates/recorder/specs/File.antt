@@ -1,9 +1,11 @@
 -- The recorder's file (document 02 a): the three letters UTR, a zero byte, a 16-bit version, a 16-bit zero, then the
 -- records, all little-endian.
 use Prim.Native.Nat.{ℕ, _+_, _*_, _/_, _%_, _^_}
-use mathlib.Core.Bool.{Bool, _&&_}
+use mathlib.Core.Bool.{Bool, cond, _&&_}
 use mathlib.Core.List.{List, [], _∷_}
 use lib.Dec.{eqb}
+use lib.ListN.{take}
+use Rattle.recorder.specs.declared.file.Header.{Header}
 
 -- four bytes as a word, little-endian
 abbrev pub wordOf : ℕ → ℕ → ℕ → ℕ → ℕ
@@ -16,6 +18,12 @@ wordsOf [] = []
 wordsOf (a ∷ []) = []
 wordsOf (a ∷ b ∷ []) = []
 wordsOf (a ∷ b ∷ c ∷ []) = []
+
+-- the bytes of words, little-endian
+abbrev pub bytesOf : List ℕ → List ℕ
+bytesOf [] = []
+bytesOf (w ∷ words) =
+    w % 2 ^ 8 ∷ w / 2 ^ 8 % 2 ^ 8 ∷ w / 2 ^ 16 % 2 ^ 8 ∷ w / 2 ^ 24 % 2 ^ 8 ∷ bytesOf words
 
 -- U, T, R and a zero byte
 abbrev pub mark : ℕ
@@ -35,3 +43,21 @@ goodHeader first second = eqb first mark && eqb (pad second) 0
 -- the versions of the file that are known
 abbrev pub known : ℕ → Bool
 known v = eqb v 1
+
+-- a header that is refused
+abbrev pub badHeader : ℕ → Header
+badHeader number = record { number = number; version = 0 }
+
+-- the words of a header: 8 where they are not two, then 6 for a bad mark or a nonzero pad, then 7 for an unknown
+-- version
+abbrev pub headed : List ℕ → Header
+headed [] = badHeader 8
+headed (first ∷ []) = badHeader 8
+headed (first ∷ second ∷ more) =
+    cond (goodHeader first second)
+    (cond (known (version second)) (record { number = 0; version = version second }) (badHeader 7))
+    (badHeader 6)
+
+-- the header of a file that begins with these bytes: its first eight
+unfoldable pub headerOf : List ℕ → Header
+headerOf bytes = headed (wordsOf (take 8 bytes))

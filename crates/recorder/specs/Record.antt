@@ -1,6 +1,6 @@
 -- A record of the recorder, a word of 32 bits (document 02 a): the kind in bits 31..28; ticks: count in bits 0..15;
 -- read and write: address in 8..10, byte in 0..7; SIN: bit 0; modem pins: bits 0..3; reset; all other bits zero.
-use Prim.Native.Nat.{ℕ, _/_, _%_, _^_}
+use Prim.Native.Nat.{ℕ, _+_, _*_, _/_, _%_, _^_}
 use mathlib.Core.Bool.{Bool, cond}
 use lib.Dec.{ltb, eqb}
 
@@ -46,3 +46,7 @@ good w = ltb (w % 2 ^ 28) (room (kind w))
 -- a read
 abbrev pub isRead : ℕ → Bool
 isRead w = eqb (kind w) 1
+
+-- the record with another byte in bits 7..0
+abbrev pub withByte : ℕ → ℕ → ℕ
+withByte w b = w / 2 ^ 8 * 2 ^ 8 + b

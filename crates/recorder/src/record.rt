@@ -1,6 +1,7 @@
 // A record: its kind, its fields, and whether it is good.
 ghost use mathlib.Core.Path.{_≡_};
-ghost use Rattle.recorder.specs.Record.{kind as «kind-of», count as «count-of», address as «address-of», byte as «byte-of», sin as «sin-of», modem as «modem-of», room as «room-of», good as «good-of»};
+ghost use Prim.Native.Nat.{_<_};
+ghost use Rattle.recorder.specs.Record.{kind as «kind-of», count as «count-of», address as «address-of», byte as «byte-of», sin as «sin-of», modem as «modem-of», room as «room-of», good as «good-of», withByte};
 
 // The kinds.
 pub const TICKS: u32 = 0;
@@ -80,4 +81,11 @@ pub fn good(w: u32) -> bool
     ensures { λ r. ⌜ r ≡ «good-of» w ⌝ }
 {
     w % KIND < room(kind(w))
+}
+
+// The record with another byte in bits 7..0.
+pub fn with_byte(w: u32, b: u8) -> u32
+    ensures { λ r. ⌜ (r ≡ withByte w b) × (b < 256) ⌝ }
+{
+    w / 256 * 256 + b as u32
 }

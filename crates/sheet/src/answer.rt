@@ -27,3 +27,6 @@ pub const BAD_RECORD: u8 = 8;
 
 // A clock or a rate outside its range.
 pub const BAD_RATE: u8 = 9;
+
+// A record for which no word is left.
+pub const NO_ROOM: u8 = 16;
