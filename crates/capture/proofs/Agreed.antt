@@ -9,11 +9,11 @@ use native.Mathlib.Omega.{arith}
 use borrow.Author.Tests.{eqb-true, not-false}
 use Rattle.recorder.specs.Record.{byte, isRead}
 use Rattle.device.specs.declared.State.{State}
-use Rattle.recorded.specs.Record.{stepOf}
+use Rattle.recorded.specs.Record.{stepOf, modelByte, differing}
 use Rattle.invariant.proofs.Settled.{Kept}
 use Rattle.capture.specs.declared.Outcome.{Outcome}
 use Rattle.capture.specs.Replay.{agreeing}
-use Rattle.capture.specs.Replay.{stepsOf, modelByte, differing, replayFrom, Agrees}
+use Rattle.capture.specs.Replay.{stepsOf, replayFrom, Agrees}
 use Rattle.recorded.proofs.Laws.{step-kept}
 use Rattle.capture.proofs.Ways.{each-way}
 

@@ -5,9 +5,9 @@ use mathlib.Core.Bool.{Bool, true, false}
 use mathlib.Core.List.{List, [], _∷_}
 use Rattle.recorder.specs.Record.{good}
 use Rattle.device.specs.declared.State.{State}
-use Rattle.recorded.specs.Record.{stepOf}
+use Rattle.recorded.specs.Record.{stepOf, differing}
 use Rattle.capture.specs.declared.Replayed.{Replayed}
-use Rattle.capture.specs.Replay.{differing, replayFrom}
+use Rattle.capture.specs.Replay.{replayFrom}
 
 -- A fact about a replay, from the three ways in which a record is met.
 module _ (P : ℕ → State → List ℕ → Replayed → Type 0) where

@@ -1,15 +1,15 @@
 -- Replay of a run of records from a state (document 02 a).
 use Prim.Native.Nat.{ℕ, suc}
 use mathlib.Core.Path.{_≡_}
-use mathlib.Core.Bool.{Bool, true, false, cond, not, _&&_}
+use mathlib.Core.Bool.{Bool, true, false, cond}
 use mathlib.Core.List.{List, [], _∷_, _++_}
-use lib.Dec.{ltb, eqb}
+use lib.Dec.{ltb}
 use lib.ListN.{length, getD}
 use Rattle.recorder.specs.Record.{byte, good, isRead}
 use Rattle.recorder.specs.File.{known}
 use Rattle.device.specs.declared.State.{State}
 use Rattle.device.specs.Ranges.{wellFormed, partOf}
-use Rattle.recorded.specs.Record.{stepOf}
+use Rattle.recorded.specs.Record.{stepOf, modelByte, differing}
 use Rattle.capture.specs.declared.Outcome.{Outcome}
 use Rattle.capture.specs.declared.Replayed.{Replayed}
 use Rattle.capture.specs.declared.Values.{Values}
@@ -43,14 +43,6 @@ valuesOf (Outcome.Differs place seen model) = record { number = 0; part = 0; pla
 valuesOf (Outcome.Refused number part place) =
     record { number = number; part = part; place = place; seen = 0; model = 0 }
 
--- the byte that the model answers at a read
-abbrev pub modelByte : State → ℕ → ℕ
-modelByte s w = stepOf s w .shown .byte
-
--- a read whose byte differs from the model's
-unfoldable pub differing : State → ℕ → Bool
-differing s w = isRead w && not (eqb (byte w) (modelByte s w))
-
 -- the records from a place on, which counts from 0 at the first: each is judged when it is reached, and the first that
 -- is bad, or a read that differs, ends the replay with the state before it
 unfoldable pub replayFrom : ℕ → State → List ℕ → Replayed
@@ -66,10 +58,6 @@ replayOf version s ws =
     cond (wellFormed s) (cond (known version) (replayFrom 0 s ws) (refused 7 s 0)) (malformed s)
 
 -- Where a replay stops.
-
--- a good record stands at a place
-unfoldable pub goodAt : List ℕ → ℕ → Bool
-goodAt ws place = ltb place (length ws) && good (getD ws place 0)
 
 -- the answer at the place where it stops: behind the last record, at a bad one, or at a read that the model answers
 -- otherwise

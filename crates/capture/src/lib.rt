@@ -8,11 +8,9 @@ use recorder::record;
 use sheet::answer;
 use sheet::part::NONE;
 ghost use mathlib.Core.Path.{_≡_};
-ghost use mathlib.Core.Bool.{true, not, _&&_};
-ghost use lib.Dec.{eqb};
+ghost use mathlib.Core.Bool.{true};
 ghost use Rattle.device.specs.Ranges.{wellFormed};
-ghost use Rattle.recorder.specs.Record.{isRead, byte as «byte-of»};
-ghost use Rattle.capture.specs.Replay.{goodAt, stoppedAt, refused as «refused-at», valuesOf, replayFrom, replayOf, Agrees};
+ghost use Rattle.capture.specs.Replay.{stoppedAt, refused as «refused-at», valuesOf, replayFrom, replayOf, Agrees};
 
 // How a replay ended: every read agreed, one differs, or a refusal, of a state that is not well formed
 // with its part that is bad.
@@ -85,26 +83,6 @@ pub fn refused(number: u8, s: State, place: usize) -> Replayed
     }
 }
 
-// Whether a good record stands at a place.
-fn good_at(records: &[u32], place: usize) -> bool
-    ensures { λ r. ⌜ r ≡ goodAt (now (records .entry)) place ⌝ }
-{
-    if records.len() <= place {
-        return false;
-    }
-    record::good(records[place])
-}
-
-// Whether a record is a read that saw another byte than the model's.
-fn differs(w: u32, model: u8) -> bool
-    ensures { λ r. ⌜ r ≡ (isRead w && not (eqb («byte-of» w) model)) ⌝ }
-{
-    if record::kind(w) != record::READ {
-        return false;
-    }
-    record::byte(w) != model
-}
-
 // The answer at the place where a replay stops: behind the last record, at a bad one, or at a read
 // that the model answers otherwise.
 fn stopped(s: State, records: &[u32], place: usize, model: u8) -> Replayed
@@ -130,50 +108,15 @@ fn stopped(s: State, records: &[u32], place: usize, model: u8) -> Replayed
     }
 }
 
-// Replays records one by one from a well-formed state, up to the first that is bad or a read that
-// differs. What a record does not touch stays where it is.
+// Replays records from a well-formed state, up to the first that is bad or a read that differs.
 fn replay_records(s: State, records: &[u32]) -> Replayed
     requires { ⌜ wellFormed s ≡ true ⌝ }
     ensures { λ r. ⌜ r ≡ replayFrom 0 s (now (records .entry)) ⌝ }
 {
-    let mut t = s;
-    let mut model: u8 = 0;
-    let mut i: usize = 0;
-    let place = loop {
-        if !good_at(records, i) {
-            break i;
-        }
-        let w = records[i];
-        let shown = recorded::shows(t, w);
-        model = shown.byte;
-        if differs(w, model) {
-            break i;
-        }
-        match recorded::way(t, w) {
-            recorded::NOTHING => {}
-            recorded::NUMBERS => {
-                let n = recorded::numbers(t, w);
-                let registers = n.registers;
-                let baud = n.baud;
-                let latches = n.latches;
-                t.registers = registers;
-                t.baud = baud;
-                t.latches = latches;
-            }
-            recorded::TRANSMIT => {
-                let n = recorded::transmit(t, w);
-                let tx = n.tx;
-                let latches = n.latches;
-                t.tx = tx;
-                t.latches = latches;
-            }
-            recorded::READ => t = recorded::after_read(t, w),
-            recorded::TICKS => t = recorded::ticks(t, w),
-            _ => t = recorded::other(t, w),
-        }
-        i += 1;
-    };
-    stopped(t, records, place, model)
+    let mut none = [0u32; 0];
+    let stop = sequence::follow(s, records, &mut none, true);
+    let t = stop.state;
+    stopped(t, records, stop.place, record::byte(stop.expected))
 }
 
 // Replays records of a version from a state.

@@ -1,11 +1,16 @@
 -- A record's step (document 02 a): the call of document 01 that the record stands for, what it shows, and the state
 -- after it.
 use Prim.Native.Nat.{ℕ}
-use Rattle.recorder.specs.Record.{kind, byKind, count, address, byte, sin, modem}
+use mathlib.Core.Bool.{Bool, cond, not, _&&_}
+use lib.Dec.{eqb}
+use Rattle.recorder.specs.Record.{kind, byKind, count, address, byte, sin, modem, isRead, withByte}
 use Rattle.device.specs.declared.Answer.{Answer}
 use Rattle.device.specs.declared.State.{State}
 use Rattle.device.specs.Calls.{resetOf, readOf, writeOf, sinOf, modemOf, ticksOf}
-use Rattle.recorded.specs.declared.Shown.{Shown}
+
+-- what a step shows beside the state that it leaves: the byte read, 0 where nothing is read
+pub record Shown : Type 0 where
+  pub byte : ℕ
 
 pub record Stepped : Type 0 where
   pub shown : Shown
@@ -29,3 +34,15 @@ stepOf s w =
     (answered (modemOf s (modem w)))
     (answered (resetOf s))
     (unseen s)
+
+-- the byte that the model answers at a read
+abbrev pub modelByte : State → ℕ → ℕ
+modelByte s w = stepOf s w .shown .byte
+
+-- a read whose byte differs from the model's
+unfoldable pub differing : State → ℕ → Bool
+differing s w = isRead w && not (eqb (byte w) (modelByte s w))
+
+-- the record of an undisturbed chip (document 02 f): each as it stands, but a read with the model's byte in it
+abbrev pub expected : State → ℕ → ℕ
+expected s w = cond (isRead w) (withByte w (modelByte s w)) w

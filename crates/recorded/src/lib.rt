@@ -1,5 +1,5 @@
-// A record's step: what it shows, and the state after it, by the ways in which records touch the
-// state. A replay leaves in place what a record does not touch.
+// A record's step: the record that the model expects, and the state after it, by the ways in which
+// records touch the state. The loop over records leaves in place what a record does not touch.
 use device::Latches;
 use device::Numbers;
 use device::State;
@@ -8,11 +8,12 @@ use recorder::record;
 use sheet::bits;
 ghost use mathlib.Core.Path.{_≡_};
 ghost use mathlib.Core.Bool.{true, false};
+ghost use Prim.Native.Nat.{_<_};
 ghost use Rattle.recorder.specs.Record.{kind as «kind-of», address as «address-of», isRead};
 ghost use Rattle.device.specs.Ranges.{wellFormed};
 ghost use Rattle.device.specs.Lcr.{divisorAccess};
 ghost use Rattle.invariant.specs.Touch.{reachesQueue, numbersOf};
-ghost use Rattle.recorded.specs.Record.{stepOf};
+ghost use Rattle.recorded.specs.Record.{stepOf, modelByte, expected};
 ghost use Rattle.recorded.specs.Way.{Way};
 
 // The ways of a record: it changes nothing, is a write that reaches no queue, a write to THR, a read
@@ -29,28 +30,22 @@ pub const TICKS: u8 = 4;
 
 pub const OTHER: u8 = 5;
 
-// What a step shows beside the state that it leaves: the byte read, 0 where nothing is read.
-pub struct Shown {
-    pub byte: u8,
-}
-
 // What a write to THR sets: the transmit queue and the latches.
 pub struct Queued {
     pub tx: ByteQueue,
     pub latches: Latches,
 }
 
-// What a record's step shows.
-pub fn shows(s: State, w: u32) -> Shown
+// The record that the model expects: a read with its byte, any other record as it stands.
+pub fn expects(s: State, w: u32) -> u32
     requires { ⌜ wellFormed s ≡ true ⌝ }
-    ensures { λ r. ⌜ r ≡ stepOf s w .shown ⌝ }
+    ensures { λ r. ⌜ r ≡ expected s w ⌝ }
+    ensures { λ _. ⌜ modelByte s w < 256 ⌝ }
 {
-    if record::kind(w) == record::READ {
-        return Shown {
-            byte: bus::value(s, record::address(w)),
-        };
+    if record::kind(w) != record::READ {
+        return w;
     }
-    Shown { byte: 0 }
+    record::with_byte(w, bus::value(s, record::address(w)))
 }
 
 // Whether a read may change the state.
