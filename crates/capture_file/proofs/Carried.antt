@@ -2,15 +2,16 @@
 use Prim.Native.Nat.{ℕ, suc, _+_, _*_, _/_, _%_, _≤_, _<_, zero-le}
 use mathlib.Core.Path.{_≡_, refl, sym, ap, _∙_}
 use mathlib.Core.Bool.{Bool, true, false, cond, not, _&&_, false≢true}
-use mathlib.Core.List.{List, [], _∷_, _++_}
+use mathlib.Core.List.{List, [], _++_}
 use lib.Dec.{eqb}
-use lib.ListN.{length, take, drop, length-append}
-use lib.Seq.{take-all, take-append-le, drop-append-le}
+use lib.ListN.{length, drop, length-append}
+use lib.Seq.{drop-append-le}
 use native.Mathlib.Omega.{arith}
 use borrow.Author.Tests.{ne-eqb}
 use Rattle.flag.proofs.Laws.{cond-map}
-use Rattle.recorder.specs.File.{wordsOf, known}
-use Rattle.recorder.proofs.Laws.{no-words, left, length-words, length-left, words-append}
+use Rattle.recorder.specs.File.{wordsOf, known, headerOf}
+use Rattle.recorder.specs.declared.file.Header.{Header}
+use Rattle.recorder.proofs.Laws.{header-append, no-words, left, length-words, length-left, words-append}
 use Rattle.device.specs.declared.State.{State}
 use Rattle.recorded.specs.Record.{stepOf}
 use Rattle.device.specs.State.{freshOf}
@@ -20,7 +21,7 @@ use Rattle.capture.specs.declared.Replayed.{Replayed}
 use Rattle.capture_file.specs.declared.Progress.{Progress}
 use Rattle.capture.specs.Replay.{agreed, refused, valuesOf, replayFrom, replayOf}
 use Rattle.capture.specs.Replay.{agreeing}
-use Rattle.capture_file.specs.File.{later, onward, ended, recordsOf, headedOf, captureOf, restOf, Ready}
+use Rattle.capture_file.specs.File.{later, onward, ended, recordsOf, captureOf, restOf, Ready}
 use Rattle.capture.proofs.Ways.{each-way}
 
 one : (n m : ℕ) → n + suc m ≡ suc (n + m)
@@ -235,17 +236,12 @@ module _ (p : Progress) (go-on : agreeing (p .replayed .outcome) ≡ true) (r : 
 
 -- The header.
 
-pub short-file : (bytes : List ℕ) → length bytes < 8 → captureOf bytes ≡ refused 8 freshOf 0
-unfolding captureOf headedOf
-short-file bytes h =
-    ap (λ (l : List ℕ). headedOf (wordsOf l) (drop 8 bytes)) (take-all 8 bytes (omega arith)) ∙ go (wordsOf bytes) (omega (arith, length-words bytes))
-  where
-    go : (ws : List ℕ) → length ws < 2 → headedOf ws (drop 8 bytes) ≡ refused 8 freshOf 0
-    go [] h = refl
-    go (w ∷ []) h = refl
-    go (w ∷ v ∷ ws) h = absurd (omega arith)
-
-pub headed-file : (first rest : List ℕ) → 8 ≤ length first → captureOf (first ++ rest) ≡ headedOf (wordsOf (take 8 first)) (drop 8 first ++ rest)
+pub refused-file : (bytes : List ℕ) (number : ℕ) → number ≡ headerOf bytes .number → (number ≡ 0 → ⊥) → captureOf bytes ≡ refused number freshOf 0
 unfolding captureOf
-headed-file first rest h =
-    ap (λ (l : List ℕ). headedOf (wordsOf l) (drop 8 (first ++ rest))) (take-append-le 8 first rest h) ∙ ap (headedOf (wordsOf (take 8 first))) (drop-append-le 8 first rest h)
+refused-file bytes number e n = rw (sym e, ne-eqb number 0 n)
+
+pub headed-file : (first rest : List ℕ) (h : Header) → h ≡ headerOf first → 8 ≤ length first → h .number ≡ 0 →
+    captureOf (first ++ rest) ≡ recordsOf (h .version) freshOf (drop 8 first ++ rest)
+unfolding captureOf
+headed-file first rest h e long z =
+    rw (header-append first rest long, sym e, z) (ap (recordsOf (h .version) freshOf) (drop-append-le 8 first rest long))

@@ -2,10 +2,10 @@
 use Prim.Native.Nat.{ℕ, _+_, _/_, _%_}
 use mathlib.Core.Path.{_≡_}
 use mathlib.Core.Bool.{true, cond, not, _&&_}
-use mathlib.Core.List.{List, [], _∷_}
+use mathlib.Core.List.{List}
 use lib.Dec.{eqb}
-use lib.ListN.{length, take, drop}
-use Rattle.recorder.specs.File.{wordsOf, goodHeader, version, known}
+use lib.ListN.{length, drop}
+use Rattle.recorder.specs.File.{wordsOf, known, headerOf}
 use Rattle.device.specs.declared.State.{State}
 use Rattle.device.specs.State.{freshOf}
 use Rattle.device.specs.Ranges.{wellFormed}
@@ -23,17 +23,13 @@ ended bytes r =
 unfoldable pub recordsOf : ℕ → State → List ℕ → Replayed
 recordsOf version s bytes = ended bytes (replayOf version s (wordsOf bytes))
 
--- the words of the header, and the bytes after it: 8 for a file shorter than the header, then 6 for a bad mark or a
--- nonzero pad, then the records of its version, where an unknown one gives 7
-unfoldable pub headedOf : List ℕ → List ℕ → Replayed
-headedOf [] bytes = refused 8 freshOf 0
-headedOf (first ∷ []) bytes = refused 8 freshOf 0
-headedOf (first ∷ second ∷ more) bytes =
-    cond (goodHeader first second) (recordsOf (version second) freshOf bytes) (refused 6 freshOf 0)
-
--- a file of these bytes
+-- a file of these bytes: the records behind a good header
 unfoldable pub captureOf : List ℕ → Replayed
-captureOf bytes = headedOf (wordsOf (take 8 bytes)) (drop 8 bytes)
+captureOf bytes =
+    let header = headerOf bytes in
+    cond (eqb (header .number) 0)
+    (recordsOf (header .version) freshOf (drop 8 bytes))
+    (refused (header .number) freshOf 0)
 
 -- A file that comes in parts.
 

@@ -84,16 +84,13 @@ pub fn begin(first: &[u8]) -> Progress
     ensures { λ r. ⌜ (length (now (first .entry)) < 8 → restOf r [] ≡ captureOf (now (first .entry))) ⌝ }
     ensures { λ r. ⌜ r .place ≡ 0 ⌝ }
 {
-    if first.len() < 8 {
-        return unread(answer::BAD_RECORD);
-    }
-    let mut words = [0u32; 2];
-    file::decode(&first[..8], &mut words);
-    if !file::good_header(words[0], words[1]) {
-        return unread(answer::BAD_HEADER);
+    let h = file::header_of(first);
+    let number = h.number;
+    if number != answer::DONE {
+        return unread(number);
     }
     Progress {
-        version: file::version(words[1]),
+        version: h.version,
         place: 0,
         replayed: Replayed {
             state: device::fresh(),

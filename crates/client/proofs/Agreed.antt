@@ -2,20 +2,21 @@
 use Prim.Native.Nat.{ℕ, _/_, _%_, _<_}
 use mathlib.Core.Path.{_≡_, refl, sym, ap, subst, _∙_}
 use mathlib.Core.Bool.{Bool, true, false, cond, not, _&&_, true≢false}
-use mathlib.Core.List.{List, [], _∷_}
+use mathlib.Core.List.{List}
 use lib.Dec.{eqb}
-use lib.ListN.{length, take, drop}
+use lib.ListN.{length, drop}
 use native.Mathlib.Omega.{arith}
-use borrow.Author.Tests.{eq-eqb}
+use borrow.Author.Tests.{eq-eqb, eqb-false}
 use Rattle.recorder.specs.Record.{byte, isRead}
-use Rattle.recorder.specs.File.{wordsOf, goodHeader, version, known}
+use Rattle.recorder.specs.File.{wordsOf, known, headerOf}
 use Rattle.device.specs.State.{freshOf}
 use Rattle.device.specs.declared.State.{State}
 use Rattle.device.specs.Ranges.{wellFormed}
+use Rattle.recorded.specs.Record.{modelByte, differing}
 use Rattle.capture.specs.declared.Outcome.{Outcome}
-use Rattle.capture.specs.Replay.{refused, malformed, modelByte, differing, replayFrom, replayOf}
+use Rattle.capture.specs.Replay.{refused, malformed, replayFrom, replayOf}
 use Rattle.capture.specs.Replay.{agreeing}
-use Rattle.capture_file.specs.File.{later, onward, ended, recordsOf, headedOf, captureOf, restOf}
+use Rattle.capture_file.specs.File.{later, onward, ended, recordsOf, captureOf, restOf}
 use Rattle.capture.specs.declared.Replayed.{Replayed}
 use Rattle.capture_file.specs.declared.Progress.{Progress}
 use Rattle.capture.proofs.Ways.{each-way}
@@ -74,17 +75,13 @@ unfolding recordsOf
 records-of-told version s bytes = ended-told bytes (replayOf version s (wordsOf bytes)) (replay-told version s (wordsOf bytes))
 
 pub capture-told : (bytes : List ℕ) → Told (captureOf bytes .outcome)
-unfolding captureOf headedOf
-capture-told bytes = go (wordsOf (take 8 bytes))
+unfolding captureOf
+capture-told bytes = go (eqb (headerOf bytes .number) 0) refl
   where
-    test : (b : Bool) (v : ℕ) → Told (cond b (recordsOf (version v) freshOf (drop 8 bytes)) (refused 6 freshOf 0) .outcome)
-    test true v = records-of-told (version v) freshOf (drop 8 bytes)
-    test false v = refused-told 6 0 0 (omega arith)
-
-    go : (ws : List ℕ) → Told (headedOf ws (drop 8 bytes) .outcome)
-    go [] = refused-told 8 0 0 (omega arith)
-    go (w ∷ []) = refused-told 8 0 0 (omega arith)
-    go (w ∷ v ∷ ws) = test (goodHeader w v) v
+    go : (b : Bool) → eqb (headerOf bytes .number) 0 ≡ b →
+        Told (cond b (recordsOf (headerOf bytes .version) freshOf (drop 8 bytes)) (refused (headerOf bytes .number) freshOf 0) .outcome)
+    go true e = records-of-told (headerOf bytes .version) freshOf (drop 8 bytes)
+    go false e = refused-told (headerOf bytes .number) 0 0 (omega (arith, eqb-false (headerOf bytes .number) 0 e))
 
 pub rest-told : (p : Progress) (bytes : List ℕ) → Told (p .replayed .outcome) → Told (restOf p bytes .outcome)
 unfolding restOf
