@@ -1,4 +1,4 @@
-// The line of a replay's answer, and the message where there is none.
+// The line of a replay's answer.
 use capture::Outcome;
 use libc::STDOUT_FILENO;
 use text::buffer;
@@ -35,14 +35,4 @@ pub fn say(several: bool, name: &[u8], o: Outcome) -> bool
     let mut line = [0u8; 4138];
     let end = put_answer(several, name, o, &mut line);
     write_line(several, name, o, &line[..end])
-}
-
-// Tells that a capture cannot be read, and why.
-pub fn tell(name: &[u8])
-    requires { ⌜ length (now name) ≤ 4096 ⌝ }
-{
-    let mut what = [0u8; 4104];
-    let at = buffer::put(b"replay: ", &mut what, 0);
-    let end = buffer::put(name, &mut what, at);
-    os::fail(&what[..end]);
 }

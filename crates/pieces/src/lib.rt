@@ -1,9 +1,8 @@
 // The bytes that were read, replayed piece by piece, with a word on how far the replay is.
-pub mod progress;
-
 use capture::Replayed;
 use capture_file::Progress;
-use progress::Watch;
+use input::progress;
+use input::progress::Watch;
 ghost use mathlib.Core.Path.{_≡_};
 ghost use mathlib.Core.List.{List, _++_};
 ghost use Prim.Native.Nat.{ℕ, _+_, _*_, _/_, _≤_, _^_};
@@ -26,6 +25,11 @@ pub struct Standing {
     pub watch: Watch,
 }
 
+// Tells how many records are replayed.
+fn tell(w: Watch, records: usize) -> Watch {
+    progress::tell(w, b"replay", records)
+}
+
 // Replays all whole records of the bytes that come next.
 pub fn go_on(p: Progress, bytes: &[u8], records: &mut [u32], watch: Watch) -> Standing
     requires { ⌜ p .place ≤ 2 ^ 63 ⌝ }
@@ -40,7 +44,7 @@ pub fn go_on(p: Progress, bytes: &[u8], records: &mut [u32], watch: Watch) -> St
     while PIECE <= bytes.len() - at {
         let end = at + PIECE;
         q = capture_file::go_on(q, &bytes[at..end], records);
-        w = progress::tell(w, q.place);
+        w = tell(w, q.place);
         at = end;
     }
     Standing {

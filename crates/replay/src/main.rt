@@ -14,7 +14,7 @@ fn help() {
         b"usage: replay [--help] [FILE ..]\n\nReplays each capture FILE on the model, standard input where there is none or for -,\nand writes a line for each, after its name where there are several:\n\nagreed                      every read saw what the model answers\ndiffers PLACE SEEN MODEL    the first read that did not, counted from 0\nrefused NUMBER PLACE        6 no capture, 7 unknown version, 8 bad record, or cut off\n\nThe exit status is always 0; the answer is the line. Where reading or writing fails,\nstandard error says so, and there is no line.\n",
     );
     if !written {
-        answer_line::tell(b"standard output");
+        arguments::tell(b"replay", b"standard output");
     }
 }
 
@@ -35,7 +35,7 @@ fn replay_named(several: bool, name: &[u8]) -> bool
     }
     let fd = os::open_read(name);
     if fd < 0 {
-        answer_line::tell(name);
+        arguments::tell(b"replay", name);
         return true;
     }
     let written = replay_file::replay(fd, several, name);
@@ -52,18 +52,6 @@ fn replay_argument(several: bool, i: usize) -> bool {
         return true;
     }
     replay_named(several, &space[..n])
-}
-
-// The first argument that is an option; their number where none is.
-fn first_option(count: usize) -> usize {
-    let mut i: usize = 1;
-    while i < count {
-        if arguments::is_option(i) {
-            return i;
-        }
-        i += 1;
-    }
-    count
 }
 
 // Replays the captures that the arguments name, until an answer cannot be written.
@@ -83,7 +71,7 @@ fn main() {
         replay_input(false, b"standard input");
         return;
     }
-    let option = first_option(count);
+    let option = arguments::first_option(count);
     if count <= option {
         replay_all(count);
         return;

@@ -1,10 +1,11 @@
 // Reads a capture from a file descriptor, 8,192 records at a time, replays it from the fresh state,
 // and writes how that ended.
-use answer_line::tell;
+use arguments::tell;
 use capture_file::Progress;
+use input::Filled;
+use input::progress;
+use input::progress::Watch;
 use pieces::Judged;
-use pieces::progress;
-use pieces::progress::Watch;
 ghost use mathlib.Core.Path.{_≡_};
 ghost use mathlib.Core.Bool.{false};
 ghost use Prim.Native.Nat.{_+_, _≤_, _<_, _^_};
@@ -15,45 +16,12 @@ ghost use Rattle.replay_file.specs.Captures.{OfRest, OfFile};
 // More blocks than any run reads. A proved loop has to end, so it counts down from here.
 const BLOCKS: usize = 1125899906842624;
 
-// How many bytes were read, and whether a read failed.
-struct Filled {
-    count: usize,
-    failed: bool,
-    watch: Watch,
-}
-
-// Reads until the block is full, the input ends or a read fails. `place` is that of its first record.
+// Fills a block, of which the first record has this place.
 fn fill(fd: i32, block: &mut [u8], place: usize, started: Watch) -> Filled
     requires { ⌜ place + length (now block) < 2 ^ 64 ⌝ }
     ensures { λ r. ⌜ Counts (r .count) (now (block .exit)) ⌝ }
 {
-    let mut watch = started;
-    let mut used: usize = 0;
-    while used < block.len() {
-        let got = libc::read(fd, &mut block[used..]);
-        if got < 0 {
-            return Filled {
-                count: used,
-                failed: true,
-                watch,
-            };
-        }
-        let n = io::count(got, &block[used..]);
-        if n == 0 {
-            return Filled {
-                count: used,
-                failed: false,
-                watch,
-            };
-        }
-        used += n;
-        watch = progress::tell(watch, place + used / 4);
-    }
-    Filled {
-        count: used,
-        failed: false,
-        watch,
-    }
+    input::fill(fd, block, place, b"replay", started)
 }
 
 // Replays the records that follow the header, block by block.
@@ -138,7 +106,7 @@ pub fn replay(fd: i32, several: bool, name: &[u8]) -> bool
     let watch = j.watch;
     progress::stop(watch);
     if j.failed {
-        tell(name);
+        tell(b"replay", name);
         return true;
     }
     let r = j.replayed;
@@ -146,6 +114,6 @@ pub fn replay(fd: i32, several: bool, name: &[u8]) -> bool
     if answer_line::say(several, name, o) {
         return true;
     }
-    tell(b"standard output");
+    tell(b"replay", b"standard output");
     false
 }

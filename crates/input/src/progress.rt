@@ -1,4 +1,4 @@
-// How far a replay is, on standard error where that is a terminal.
+// How far the work on a capture is, on standard error where that is a terminal.
 use libc::STDERR_FILENO;
 
 // The second in which this was told last, whether to tell at all, and the records that were told.
@@ -31,8 +31,9 @@ pub fn start() -> Watch {
     }
 }
 
-// Tells how many records there are so far, where another second has begun and they are more than were told.
-pub fn tell(w: Watch, records: usize) -> Watch {
+// Tells how many records the program has so far, where another second has begun and they are more
+// than were told.
+pub fn tell(w: Watch, program: &[u8], records: usize) -> Watch {
     if !w.tells {
         return w;
     }
@@ -43,7 +44,9 @@ pub fn tell(w: Watch, records: usize) -> Watch {
     if now == w.second {
         return w;
     }
-    io::write_all(STDERR_FILENO, b"\rreplay: ");
+    io::write_all(STDERR_FILENO, b"\r");
+    io::write_all(STDERR_FILENO, program);
+    io::write_all(STDERR_FILENO, b": ");
     io::print_decimal(STDERR_FILENO, records as u64);
     io::write_all(STDERR_FILENO, b" records");
     Watch {

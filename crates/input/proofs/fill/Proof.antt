@@ -6,14 +6,14 @@ use mathlib.Core.Path.{_≡_, sym}
 use mathlib.Core.List.{List}
 use lib.ListN.{length}
 use borrow.Author.Needs.{needs}
-use Rattle.replay_file.proofs.fill.Statement.{statement}
-use Rattle.replay_file.proofs.fill.Tie as tie
+use Rattle.input.proofs.fill.Statement.{statement}
+use Rattle.input.proofs.fill.Tie as tie
 
 abbrev Inv-loop : tie.InvT-loop
-Inv-loop fd block₀ place watch₀ used₀ block watch used = (used ≤ length block) × (length block ≡ length block₀) × (place + length block₀ < 2 ^ 64)
+Inv-loop fd block₀ place program watch₀ used₀ block watch used = (used ≤ length block) × (length block ≡ length block₀) × (place + length block₀ < 2 ^ 64)
 
 abbrev μ-loop : tie.MeasureT-loop
-μ-loop fd block₀ place watch₀ used₀ block watch used = length block₀ - used
+μ-loop fd block₀ place program watch₀ used₀ block watch used = length block₀ - used
 
 counted : (n : ℕ) (xs : List ℕ) → n ≤ length xs → Counts n xs
 counted n xs h = (h, sym (length-take-le n xs h))
