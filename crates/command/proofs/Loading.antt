@@ -31,7 +31,7 @@ same-test a b c d f g = go (decLe a b)
         simp (lt-leb _ _ h, lt-leb _ _ m)
 
 -- a first word that is no number
-pub no-number : (k : ℕ) (w : List ℕ) (ws : List (List ℕ)) → numberOf w ≡ Number.Nothing → fewNumbers k (w ∷ ws) ≡ false
+no-number : (k : ℕ) (w : List ℕ) (ws : List (List ℕ)) → numberOf w ≡ Number.Nothing → fewNumbers k (w ∷ ws) ≡ false
 unfolding fewNumbers allNumbers
 no-number k w ws e = simp (e, and-false)
 
@@ -49,13 +49,13 @@ too-many w ws =
     simp (lt-leb _ _ h)
 
 -- no word is left
-pub none-left : (k : ℕ) → fewNumbers k [] ≡ true
+none-left : (k : ℕ) → fewNumbers k [] ≡ true
 unfolding fewNumbers allNumbers
 none-left k =
     let h : 0 ≤ k = omega arith in
     simp (le-leb _ _ h)
 
-pub one-value : (n : ℕ) (w : List ℕ) (ws : List (List ℕ)) → numberOf w ≡ Number.Value n → valuesOf (w ∷ ws) ≡ n ∷ valuesOf ws
+one-value : (n : ℕ) (w : List ℕ) (ws : List (List ℕ)) → numberOf w ≡ Number.Value n → valuesOf (w ∷ ws) ≡ n ∷ valuesOf ws
 unfolding valuesOf
 one-value n w ws e = simp e
 

@@ -15,7 +15,7 @@ use Rattle.text.specs.Text.{text, same}
 use Rattle.text.specs.Decimal.{isDigit, valueAfter, numberAfter, numberOf}
 use Rattle.text.specs.Words.{joined, words}
 use Rattle.numbers.specs.Numbers.{stateCount}
-use Rattle.command.specs.Command.{mostRecords, longestLine, ranged, bare, one, two, isSome, valueOf, allNumbers, areNumbers, fewNumbers, many, listed, table, lookUp, byWords, commandOf}
+use Rattle.command.specs.Command.{mostVersion, mostRoom, longestLine, ranged, bare, one, leading, two, isSome, valueOf, allNumbers, areNumbers, fewNumbers, many, listed, table, lookUp, byWords, commandOf}
 use Rattle.text.proofs.Texts.{same-equal}
 use Rattle.text.proofs.Tests.{and-false, cond-same}
 
@@ -161,19 +161,27 @@ few-long k ws h = go (leb (length ws) k) refl (allNumbers ws) refl
     go true e false f = refl
     go true e true f = absurd (omega (arith, leb-true (length ws) k e, numbers-total ws f))
 
-listed-long : (k : ℕ) (f : ℕ → ℕ → Command) (ws : List (List ℕ)) → 6 + 11 * k < total ws → listed 65535 k f ws ≡ Command.Bad
-listed-long k f [] h = refl
-listed-long k f (w ∷ ws) h = go (numberOf w) refl (decLe (length w) 5)
+listed-long : (k : ℕ) (f : ℕ → Command) (ws : List (List ℕ)) → 11 * k < total ws → listed k f ws ≡ Command.Bad
+listed-long k f ws h = simp (few-long k ws h)
+
+-- a number up to `most`, of at most so many digits, and what the words after it make
+leading-long : (most digits bytes : ℕ) (f : ℕ → List (List ℕ) → Command) (ws : List (List ℕ)) → 0 < digits → most < tens digits → ((n : ℕ) (vs : List (List ℕ)) → bytes < total vs → f n vs ≡ Command.Bad) → suc digits + bytes < total ws → leading 0 most f ws ≡ Command.Bad
+leading-long most digits bytes f [] p m g h = refl
+leading-long most digits bytes f (w ∷ ws) p m g h = go (numberOf w) refl (decLe (length w) digits)
   where
-    go : (x : Number) → numberOf w ≡ x → Dec (length w ≤ 5) → ranged 0 65535 (λ n. cond (fewNumbers k ws) (f n (length ws)) Command.Bad) x ≡ Command.Bad
+    go : (x : Number) → numberOf w ≡ x → Dec (length w ≤ digits) → ranged 0 most (λ n. f n ws) x ≡ Command.Bad
     go Number.Nothing e s = refl
-    go (Number.Value n) e (yes s) =
-        ap (λ (t : Bool). cond (leb 0 n && leb n 65535) (cond t (f n (length ws)) Command.Bad) Command.Bad) (few-long k ws (omega (arith, s)))
-        ∙ cond-same (leb 0 n && leb n 65535) Command.Bad
+    go (Number.Value n) e (yes s) = rw (g n ws (omega (arith, s))) (cond-same (leb 0 n && leb n most) Command.Bad)
     go (Number.Value n) e (no s) =
-        let least : 100000 ≤ n = long-number w n 5 e (omega arith) (omega (arith, s)) .0 in
-        let large : 65535 < n = omega (arith, least) in
+        let large : most < n = omega (arith, m, long-number w n digits e p (omega (arith, s)) .0) in
         simp (lt-leb _ _ large, and-false)
+
+replay-long : (k : ℕ) (f : ℕ → ℕ → Command) (ws : List (List ℕ)) → 6 + 11 * k < total ws → leading 0 mostVersion (λ v. listed k (f v)) ws ≡ Command.Bad
+replay-long k f ws h = leading-long mostVersion 5 (11 * k) (λ v. listed k (f v)) ws (omega arith) (omega arith) (λ v vs. listed-long k (f v) vs) h
+
+expect-long : (k : ℕ) (f : ℕ → ℕ → ℕ → Command) (ws : List (List ℕ)) → 11 + 11 * k < total ws → leading 0 mostVersion (λ v. leading 0 mostRoom (λ room. listed k (f v room))) ws ≡ Command.Bad
+expect-long k f ws h =
+    leading-long mostVersion 5 (5 + 11 * k) (λ v. leading 0 mostRoom (λ room. listed k (f v room))) ws (omega arith) (omega arith) (λ v vs. leading-long mostRoom 4 (11 * k) (λ room. listed k (f v room)) vs (omega arith) (omega arith) (λ room us. listed-long k (f v room) us)) (omega (arith, h))
 
 -- The table.
 module _ (w : List ℕ) (ws : List (List ℕ)) (h : longestLine < length w + total ws) where
@@ -201,9 +209,10 @@ module _ (w : List ℕ) (ws : List (List ℕ)) (h : longestLine < length w + tot
       (row-long (text "forecast") _ _ (λ (e : length w ≡ 8). bare-long _ ws (omega (arith, e)))
       (row-long (text "level") _ _ (λ (e : length w ≡ 5). one-long 0 4294967295 _ ws (omega (arith, e)))
       (row-long (text "run") _ _ (λ (e : length w ≡ 3). one-long 0 4294967295 _ ws (omega (arith, e)))
-      (row-long (text "replay") _ _ (λ (e : length w ≡ 6). listed-long mostRecords _ ws (omega (arith, e)))
+      (row-long (text "replay") _ _ (λ (e : length w ≡ 6). replay-long _ Command.Replay ws (omega (arith, e)))
       (row-long (text "part") _ _ (λ (e : length w ≡ 4). bare-long _ ws (omega (arith, e)))
-      (row-long (text "divisor") _ _ (λ (e : length w ≡ 7). two-long 0 4294967295 _ ws (omega (arith, e))) refl))))))))))))))))
+      (row-long (text "divisor") _ _ (λ (e : length w ≡ 7). two-long 0 4294967295 _ ws (omega (arith, e)))
+      (row-long (text "expect") _ _ (λ (e : length w ≡ 6). expect-long _ Command.Expect ws (omega (arith, e))) refl)))))))))))))))))
 
 pub long-line : (l : List ℕ) → longestLine < length l → commandOf l ≡ Command.Bad
 unfolding commandOf byWords

@@ -3,32 +3,31 @@ use Prim.Native.Nat.{ℕ, suc, _+_, _-_, _≤_, _<_}
 use mathlib.Core.Path.{_≡_, refl, sym, ap, _∙_}
 use mathlib.Core.Bool.{Bool, true, false, cond, _&&_}
 use mathlib.Core.List.{List, [], _∷_}
-use lib.ListN.{length, getD, take, drop}
-use lib.Seq.{take-all, getD-take}
+use lib.ListN.{length, take, drop}
+use lib.Seq.{take-all}
 use lib.Dec.{leb, eqb}
 use native.Mathlib.Decide.{decLt}
 use native.Mathlib.Omega.{arith}
-use borrow.Author.Tests.{eq-eqb, ne-eqb, le-leb, lt-leb, leb-false}
+use borrow.Author.Tests.{ne-eqb, leb-false}
 use Rattle.text.specs.declared.decimal.Number.{Number}
 use Rattle.command.specs.declared.Command.{Command}
 use Rattle.text.specs.Text.{text, same, before}
 use Rattle.text.specs.Decimal.{numberOf}
 use Rattle.text.specs.Words.{words}
 use Rattle.numbers.specs.Numbers.{stateCount}
-use Rattle.command.specs.Command.{mostRecords, mostNumbers, ranged, allNumbers, areNumbers, fewNumbers, numbersIn, valuesOf, table, lookUp, byWords, commandOf, beside, operandsOf}
+use Rattle.command.specs.Command.{mostNumbers, allNumbers, areNumbers, fewNumbers, numbersIn, valuesOf, table, lookUp, byWords, commandOf, beside, operandsOf}
 use Rattle.text.proofs.Tests.{and-false, and-true, cond-same}
 use Rattle.text.proofs.Splitting.{before-most, words-whole, words-part, words-split, rest-of, number-word, led}
 use Rattle.command.proofs.Commands.{found}
-use Rattle.command.proofs.Loading.{no-number, one-number, none-left, one-value, numbers-none, numbers-all}
 
 -- A word that takes one number, or none, where what follows is no number.
-pub no-number-row : (w r : List ℕ) → numberOf r ≡ Number.Nothing → same w (text "write") ≡ false → same w (text "load") ≡ false → same w (text "divisor") ≡ false → same w (text "replay") ≡ false → Command.Bad ≡ lookUp table w (words r)
+pub no-number-row : (w r : List ℕ) → numberOf r ≡ Number.Nothing → same w (text "write") ≡ false → same w (text "load") ≡ false → same w (text "divisor") ≡ false → same w (text "replay") ≡ false → same w (text "expect") ≡ false → Command.Bad ≡ lookUp table w (words r)
 unfolding lookUp table
-no-number-row w r e a b d p = go (decLt (before 32 r) (length r))
+no-number-row w r e a b d p x = go (decLt (before 32 r) (length r))
   where
     go : Dec (before 32 r < length r) → Command.Bad ≡ lookUp table w (words r)
-    go (yes h) = rw (words-split r h, led (drop (suc (before 32 r)) r) .are) (simp (a, b, d, p, cond-same))
-    go (no n) = rw (words-whole r (omega (arith, n, before-most 32 r))) (simp (e, a, b, d, p, cond-same))
+    go (yes h) = rw (words-split r h, led (drop (suc (before 32 r)) r) .are) (simp (a, b, d, p, x, cond-same))
+    go (no n) = rw (words-whole r (omega (arith, n, before-most 32 r))) (simp (e, a, b, d, p, x, cond-same))
 
 -- The row of `load`: k numbers, of those that a buffer of m takes.
 are-counted : (k m : ℕ) (ws : List (List ℕ)) → 0 < k → k ≤ m → eqb (numbersIn m ws) k ≡ areNumbers k ws
@@ -47,48 +46,6 @@ pub load-row : (ws : List (List ℕ)) (n : ℕ) → n ≡ numbersIn mostNumbers 
 unfolding lookUp table same
 load-row ws n e =
     ap (λ (b : Bool). cond b Command.Load Command.Bad) (ap (λ (m : ℕ). eqb m stateCount) e ∙ are-counted stateCount mostNumbers ws (omega arith) (omega arith))
-
--- The row of `replay`: n numbers, of those that the buffer takes.
-module _ (n : ℕ) where
-  abbrev listed-row : ℕ → Command
-  listed-row first = cond (eqb n 0) Command.Bad (ranged 0 65535 (λ v. Command.Replay v (n - 1)) (Number.Value first))
-
-  replay-row : (ws : List (List ℕ)) → n ≡ numbersIn mostNumbers ws → lookUp table (text "replay") ws ≡ listed-row (getD (valuesOf ws) 0 0)
-  unfolding lookUp table same
-  replay-row [] e =
-      let z : n ≡ 0 = e ∙ sym (numbers-all mostNumbers [] (none-left mostNumbers)) in
-      simp (eq-eqb _ _ z)
-  replay-row (w ∷ ws) e = go (numberOf w) refl (fewNumbers mostRecords ws) refl
-    where
-      go : (x : Number) → numberOf w ≡ x → (t : Bool) → fewNumbers mostRecords ws ≡ t → ranged 0 65535 (λ v. cond t (Command.Replay v (length ws)) Command.Bad) x ≡ listed-row (getD (valuesOf (w ∷ ws)) 0 0)
-      go Number.Nothing d t f =
-          let z : n ≡ 0 = e ∙ sym (numbers-none mostNumbers (w ∷ ws) (no-number mostNumbers w ws d)) in
-          simp (eq-eqb _ _ z)
-      go (Number.Value a) d false f =
-          let z : n ≡ 0 = e ∙ sym (numbers-none mostNumbers (w ∷ ws) (one-number mostNumbers a w ws d (omega arith) ∙ f)) in
-          simp (eq-eqb _ _ z) (cond-same (leb 0 a && leb a 65535) Command.Bad)
-      go (Number.Value a) d true f =
-          let c : n ≡ suc (length ws) = e ∙ sym (numbers-all mostNumbers (w ∷ ws) (one-number mostNumbers a w ws d (omega arith) ∙ f)) in
-          let z : (n ≡ 0 → ⊥) = λ q. absurd (omega arith) in
-          let p : length ws ≡ n - 1 = omega arith in
-          rw (one-value a w ws d) (simp (ne-eqb _ _ z) (ap (λ (m : ℕ). cond (leb 0 a && leb a 65535) (Command.Replay a m) Command.Bad) p))
-
-  module _ (ws : List (List ℕ)) (e : n ≡ numbersIn mostNumbers ws) where
-    pub replay-none : n ≡ 0 → Command.Bad ≡ lookUp table (text "replay") ws
-    replay-none z = sym (replay-row ws e ∙ simp (eq-eqb _ _ z))
-
-    module _ (to : List ℕ) (f : take n to ≡ take n (valuesOf ws)) (z : n ≡ 0 → ⊥) where
-      replay-first : lookUp table (text "replay") ws ≡ ranged 0 65535 (λ v. Command.Replay v (n - 1)) (Number.Value (getD to 0 0))
-      replay-first =
-          let h : 0 < n = omega (arith, z) in
-          let g : getD (valuesOf ws) 0 0 ≡ getD to 0 0 = sym (getD-take n (valuesOf ws) 0 0 h) ∙ ap (λ (s : List ℕ). getD s 0 0) (sym f) ∙ getD-take n to 0 0 h in
-          replay-row ws e ∙ rw g (simp (ne-eqb _ _ z))
-
-      pub replay-large : 65535 < getD to 0 0 → Command.Bad ≡ lookUp table (text "replay") ws
-      replay-large m = sym (replay-first ∙ simp (lt-leb _ _ m, and-false))
-
-      pub replay-some : getD to 0 0 ≤ 65535 → Command.Replay (getD to 0 0) (n - 1) ≡ lookUp table (text "replay") ws
-      replay-some m = sym (replay-first ∙ simp (le-leb 0 (getD to 0 0) (omega arith), le-leb _ _ m))
 
 -- The first word of a line: k is the place of its first space.
 module _ (l : List ℕ) (k : ℕ) (place : k ≡ 0 + before 32 (drop 0 l)) where
@@ -118,8 +75,8 @@ module _ (l : List ℕ) (k : ℕ) (place : k ≡ 0 + before 32 (drop 0 l)) where
     pub line-number : (c : Command) (n : ℕ) → numberOf tail ≡ Number.Value n → ((a : List ℕ) → numberOf a ≡ Number.Value n → c ≡ lookUp table (take k l) (a ∷ [])) → c ≡ commandOf l
     line-number c n e f = f tail e ∙ rw (← number-word tail n e) line-part
 
-    pub line-none : numberOf tail ≡ Number.Nothing → same (take k l) (text "write") ≡ false → same (take k l) (text "load") ≡ false → same (take k l) (text "divisor") ≡ false → same (take k l) (text "replay") ≡ false → Command.Bad ≡ commandOf l
-    line-none e a b d p = no-number-row (take k l) tail e a b d p ∙ line-part
+    pub line-none : numberOf tail ≡ Number.Nothing → same (take k l) (text "write") ≡ false → same (take k l) (text "load") ≡ false → same (take k l) (text "divisor") ≡ false → same (take k l) (text "replay") ≡ false → same (take k l) (text "expect") ≡ false → Command.Bad ≡ commandOf l
+    line-none e a b d p x = no-number-row (take k l) tail e a b d p x ∙ line-part
 
 -- nothing stands beside the command
 pub no-operands : (l to : List ℕ) (c : Command) → c ≡ commandOf l → beside c ≡ 0 → take (beside c) to ≡ operandsOf l

@@ -15,18 +15,26 @@ use Rattle.text.specs.Decimal.{numberOf}
 use Rattle.text.specs.Words.{words}
 use Rattle.numbers.specs.Numbers.{stateCount}
 
+-- the largest version that a line may name
+abbrev pub mostVersion : ℕ
+mostVersion = 65535
+
 -- the most records of a line
 abbrev pub mostRecords : ℕ
 mostRecords = 1024
 
--- the most numbers that a line has: a version and its records
-abbrev pub mostNumbers : ℕ
-mostNumbers = mostRecords + 1
+-- the most words that `expect` writes into
+abbrev pub mostRoom : ℕ
+mostRoom = 1024
 
--- the longest line that is a command: `replay` with a version of five digits, and a space and ten digits for each of
--- its records
+-- the most numbers that a line has: a version, a room and the records of `expect`
+abbrev pub mostNumbers : ℕ
+mostNumbers = mostRecords + 2
+
+-- the longest line that is a command: `expect` with a version of five digits, a room of four, and a space and ten
+-- digits for each of its records
 abbrev pub longestLine : ℕ
-longestLine = length (text "replay") + 1 + 5 + 11 * mostRecords
+longestLine = length (text "expect") + 1 + 5 + 1 + 4 + 11 * mostRecords
 
 -- What the words after the first make of a command: their numbers have to be as many as it takes, each in its range.
 
@@ -46,10 +54,14 @@ one least most f [] = Command.Bad
 one least most f (w ∷ []) = ranged least most f (numberOf w)
 one least most f (w ∷ v ∷ ws) = Command.Bad
 
+-- a number of this range, and what the words after it make
+abbrev pub leading : ℕ → ℕ → (ℕ → List (List ℕ) → Command) → List (List ℕ) → Command
+leading least most f [] = Command.Bad
+leading least most f (w ∷ ws) = ranged least most (λ n. f n ws) (numberOf w)
+
 -- two numbers, each of this range
 abbrev pub two : ℕ → ℕ → (ℕ → ℕ → Command) → List (List ℕ) → Command
-two least most f [] = Command.Bad
-two least most f (w ∷ ws) = ranged least most (λ n. one least most (f n) ws) (numberOf w)
+two least most f = leading least most (λ n. one least most (f n))
 
 -- what two numbers that were read make of a command, and that neither is above the most
 abbrev pub paired : (ℕ → ℕ → Command) → Pair → Command
@@ -92,10 +104,9 @@ valuesOf ws = map (λ (w : List ℕ). valueOf (numberOf w)) ws
 abbrev pub many : ℕ → Command → List (List ℕ) → Command
 many k c ws = cond (areNumbers k ws) c Command.Bad
 
--- a number up to `most`, and at most k numbers after it
-abbrev pub listed : ℕ → ℕ → (ℕ → ℕ → Command) → List (List ℕ) → Command
-listed most k f [] = Command.Bad
-listed most k f (w ∷ ws) = ranged 0 most (λ n. cond (fewNumbers k ws) (f n (length ws)) Command.Bad) (numberOf w)
+-- at most k numbers: how many they are
+abbrev pub listed : ℕ → (ℕ → Command) → List (List ℕ) → Command
+listed k f ws = cond (fewNumbers k ws) (f (length ws)) Command.Bad
 
 -- a row of the table: the first word of a line, and what the others make
 pub record Row : Type 0 where
@@ -121,9 +132,10 @@ table =
     ∷ row "forecast" (bare Command.Forecast)
     ∷ row "level" (one 0 4294967295 Command.Level)
     ∷ row "run" (one 0 4294967295 Command.Run)
-    ∷ row "replay" (listed 65535 mostRecords Command.Replay)
+    ∷ row "replay" (leading 0 mostVersion (λ v. listed mostRecords (Command.Replay v)))
     ∷ row "part" (bare Command.Part)
     ∷ row "divisor" (two 0 4294967295 Command.Divisor)
+    ∷ row "expect" (leading 0 mostVersion (λ v. leading 0 mostRoom (λ room. listed mostRecords (Command.Expect v room))))
     ∷ []
 
 -- the row of a word
@@ -145,7 +157,7 @@ abbrev pub rest : List (List ℕ) → List (List ℕ)
 rest [] = []
 rest (w ∷ ws) = ws
 
--- how many of a line's numbers stand beside its command: the state of `load`, the version and the records of `replay`
+-- how many of a line's numbers stand beside its command: the state of `load`, and all numbers of `replay` and `expect`
 abbrev pub beside : Command → ℕ
 beside Command.Fresh = 0
 beside Command.Load = stateCount
@@ -158,8 +170,25 @@ beside (Command.Run n) = 0
 beside (Command.Replay v n) = n + 1
 beside Command.Part = 0
 beside (Command.Divisor c r) = 0
+beside (Command.Expect v room n) = n + 2
 beside Command.Bad = 0
 
--- those numbers
+-- how many words a command writes into: the room of `expect`
+abbrev pub roomOf : Command → ℕ
+roomOf Command.Fresh = 0
+roomOf Command.Load = 0
+roomOf Command.State = 0
+roomOf (Command.Step c) = 0
+roomOf Command.Pins = 0
+roomOf Command.Forecast = 0
+roomOf (Command.Level t) = 0
+roomOf (Command.Run n) = 0
+roomOf (Command.Replay v n) = 0
+roomOf Command.Part = 0
+roomOf (Command.Divisor c r) = 0
+roomOf (Command.Expect v room n) = room
+roomOf Command.Bad = 0
+
+-- the numbers beside a line's command
 unfoldable pub operandsOf : List ℕ → List ℕ
 operandsOf line = take (beside (commandOf line)) (valuesOf (rest (words line)))

@@ -13,12 +13,21 @@ ghost use Rattle.text.specs.Decimal.{numberOf};
 ghost use Rattle.text.specs.Words.{words as «words-of»};
 ghost use Rattle.command.specs.Command.{mostNumbers, two, paired, atMost, numbersIn, valuesOf, table, lookUp, commandOf, beside, operandsOf};
 
-// The most numbers that a line has: a version and 1,024 records.
-pub const MOST_NUMBERS: usize = 1025;
+// The largest version that a line may name.
+const MOST_VERSION: u32 = 65535;
 
-// The longest line that is no `bad`: `replay`, a space, a version of five digits, and a space and
-// ten digits for each record.
-pub const LONGEST_LINE: usize = 12 + 11 * (MOST_NUMBERS - 1);
+// The most records of a line.
+const MOST_RECORDS: usize = 1024;
+
+// The most words that `expect` writes into.
+pub const MOST_ROOM: u32 = 1024;
+
+// The most numbers that a line has: a version, a room and the records of `expect`.
+pub const MOST_NUMBERS: usize = MOST_RECORDS + 2;
+
+// The longest line that is no `bad`: `expect`, a version of five digits and a room of four, each
+// after a space, and a space and ten digits for each record.
+pub const LONGEST_LINE: usize = 17 + 11 * MOST_RECORDS;
 
 // A call that moves the current state by a step.
 pub enum Call {
@@ -31,8 +40,8 @@ pub enum Call {
     Ticks(u32),
 }
 
-// A line's command. The numbers of `load` stand beside it, and so do those of `replay`, whose
-// version and number of records it has.
+// A line's command. The numbers of `load` stand beside it, and so do those of `replay` and `expect`,
+// whose version, room and number of records it has.
 pub enum Command {
     Fresh,
     Load,
@@ -45,6 +54,7 @@ pub enum Command {
     Replay(u32, usize),
     Part,
     Divisor(u32, u32),
+    Expect(u32, usize, usize),
     Bad,
 }
 
@@ -213,10 +223,36 @@ fn replay(numbers: &[u8], to: &mut [u32]) -> Command
         return Command::Bad;
     }
     let version = to[0];
-    if 65535 < version {
+    if MOST_VERSION < version {
         return Command::Bad;
     }
-    Command::Replay(version, n - 1)
+    let records = n - 1;
+    if MOST_RECORDS < records {
+        return Command::Bad;
+    }
+    Command::Replay(version, records)
+}
+
+// The command `expect` with these numbers, which are then in `to`.
+fn expect(numbers: &[u8], to: &mut [u32]) -> Command
+    requires { ⌜ length (now to) ≡ mostNumbers ⌝ }
+    ensures { λ r. ⌜ r ≡ lookUp table (text "expect") («words-of» (now (numbers .entry))) ⌝ }
+    ensures { λ r. ⌜ beside r ≤ mostNumbers ⌝ }
+    ensures { λ r. ⌜ take (beside r) (now (to .exit)) ≡ take (beside r) (valuesOf («words-of» (now (numbers .entry)))) ⌝ }
+{
+    let n = read_numbers(numbers, to);
+    if n < 2 {
+        return Command::Bad;
+    }
+    let version = to[0];
+    if MOST_VERSION < version {
+        return Command::Bad;
+    }
+    let room = to[1];
+    if MOST_ROOM < room {
+        return Command::Bad;
+    }
+    Command::Expect(version, room as usize, n - 2)
 }
 
 // The command of a line, which has no newline. The numbers that stand beside it are in `to`.
@@ -244,6 +280,9 @@ pub fn command_of(line: &[u8], to: &mut [u32]) -> Command
     }
     if words::same(word, b"replay") {
         return replay(numbers, to);
+    }
+    if words::same(word, b"expect") {
+        return expect(numbers, to);
     }
     match decimal::number_of(numbers) {
         Number::Value(n) => with_number(word, n),

@@ -2,13 +2,14 @@
 use Prim.Native.Nat.{ℕ}
 use mathlib.Core.Bool.{Bool, true, false}
 use mathlib.Core.List.{List, [], _∷_}
-use lib.ListN.{drop}
+use lib.ListN.{drop, replicate}
 use Rattle.device.specs.declared.State.{State}
 use Rattle.device.specs.State.{freshOf}
 use Rattle.device.specs.Calls.{pinsOf}
 use Rattle.device.specs.Forecast.{forecastOf, levelOf, runOf}
 use Rattle.capture.specs.declared.Replayed.{Replayed}
 use Rattle.capture.specs.Replay.{replayOf}
+use Rattle.expected.specs.Expected.{Written, expectOf}
 use Rattle.rate.specs.Rate.{divisorFor}
 use Rattle.command.specs.declared.Command.{Command}
 use Rattle.current.specs.declared.Session.{Session}
@@ -21,6 +22,18 @@ use Rattle.current.specs.Current.{held, loadedOf, currentNumbers, moved}
 -- replay of a line's records, which follow the version in its numbers ns
 abbrev pub replayedOf : State → ℕ → List ℕ → Replayed
 replayedOf s version ns = replayOf version s (drop 1 ns)
+
+-- a word that nothing was written into
+abbrev pub unwritten : ℕ
+unwritten = 0xAAAAAAAA
+
+-- the capture expected for records of a version, written into a room of words
+abbrev pub expectedOf : State → ℕ → ℕ → List ℕ → Written
+expectedOf s version room records = expectOf version s records (replicate room unwritten)
+
+-- number, words written, and all words of the room as they are then
+abbrev pub writtenNumbers : Written → List ℕ
+writtenNumbers w = w .answer .number ∷ w .answer .count ∷ w .words
 
 -- What a command writes. The numbers kept are those loaded last; the numbers ns are the line's.
 unfoldable pub saidOf : Session → List ℕ → List ℕ → Command → List ℕ
@@ -35,6 +48,7 @@ saidOf s kept ns (Command.Run n) = lineOf (runNumbers (runOf (s .state) n))
 saidOf s kept ns (Command.Replay v n) = outcomeLine (replayedOf (s .state) v ns .outcome)
 saidOf s kept ns Command.Part = lineOf (partNumbers (pinsOf (s .state)))
 saidOf s kept ns (Command.Divisor c r) = divisorLine (divisorFor c r)
+saidOf s kept ns (Command.Expect v room n) = lineOf (writtenNumbers (expectedOf (s .state) v room (drop 2 ns)))
 saidOf s kept ns Command.Bad = text "bad\n"
 
 -- The current state after a command.
@@ -50,6 +64,7 @@ nextOf s ns (Command.Run n) = moved s (runOf (s .state) n .state)
 nextOf s ns (Command.Replay v n) = moved s (replayedOf (s .state) v ns .state)
 nextOf s ns Command.Part = s
 nextOf s ns (Command.Divisor c r) = s
+nextOf s ns (Command.Expect v room n) = moved s (expectedOf (s .state) v room (drop 2 ns) .answer .state)
 nextOf s ns Command.Bad = s
 
 -- The numbers loaded last, after a command.
@@ -65,6 +80,7 @@ keptOf kept ns (Command.Run n) = kept
 keptOf kept ns (Command.Replay v n) = kept
 keptOf kept ns Command.Part = kept
 keptOf kept ns (Command.Divisor c r) = kept
+keptOf kept ns (Command.Expect v room n) = kept
 keptOf kept ns Command.Bad = kept
 
 -- a command that leaves both as they are
@@ -80,4 +96,5 @@ changesNothing (Command.Run n) = false
 changesNothing (Command.Replay v n) = false
 changesNothing Command.Part = true
 changesNothing (Command.Divisor c r) = true
+changesNothing (Command.Expect v room n) = false
 changesNothing Command.Bad = true

@@ -1,5 +1,5 @@
 -- The current state, and its numbers.
-use Prim.Native.Nat.{ℕ, _*_}
+use Prim.Native.Nat.{ℕ, _+_, _*_}
 use mathlib.Core.Bool.{Bool, true, false, cond, _&&_}
 use mathlib.Core.List.{List, [], _∷_}
 use lib.Dec.{eqb}
@@ -7,8 +7,9 @@ use Rattle.device.specs.declared.Receiver.{Receiver}
 use Rattle.device.specs.declared.State.{State}
 use Rattle.device.specs.State.{withRegisters, withIer, withInputs, withFrame, withReceiver, withLatches, withOverrun}
 use Rattle.device.specs.Ranges.{parts, firstFailing}
+use Rattle.command.specs.Command.{mostRoom}
 use Rattle.current.specs.declared.Session.{Session}
-use Rattle.numbers.specs.Numbers.{stateCount, numbersOf, fitting, fits, unfitPart, stateOf}
+use Rattle.numbers.specs.Numbers.{numbersOf, fitting, fits, unfitPart, stateOf}
 
 abbrev pub held : State → Session
 held s = record { state = s; fits = true }
@@ -62,6 +63,6 @@ currentNumbers s kept = cond (s .fits) (numbersOf (s .state)) kept
 abbrev pub moved : Session → State → Session
 moved s t = record { state = t; fits = s .fits }
 
--- the longest answer, `state`'s: ten digits and the byte after them for each number
+-- the longest answer, `expect`'s: ten digits and the byte after them for the number, the count and each word
 abbrev pub longestAnswer : ℕ
-longestAnswer = 11 * stateCount
+longestAnswer = 11 * (mostRoom + 2)

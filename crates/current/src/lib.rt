@@ -12,15 +12,23 @@ ghost use Rattle.device.specs.State.{freshOf};
 ghost use Rattle.device.specs.Ranges.{partOf};
 ghost use Rattle.device.specs.Forecast.{runOf};
 ghost use Rattle.capture.specs.Replay.{replayOf};
+ghost use Rattle.command.specs.Command.{mostRoom};
 ghost use Rattle.text.specs.Text.{Appended};
 ghost use Rattle.text.specs.Decimal.{lineOf};
 ghost use Rattle.numbers.specs.Numbers.{stateCount};
 ghost use Rattle.outcome.specs.Outcome.{outcomeLine};
 ghost use Rattle.reply.specs.Reply.{stepOf, stepNumbers, runNumbers};
 ghost use Rattle.current.specs.Current.{held, broken as «broken-in», loadedOf, loadedPart, currentNumbers, longestAnswer, moved};
+ghost use Rattle.current.specs.Commands.{expectedOf, writtenNumbers};
 
-// The longest answer: the numbers of a state, each of ten digits with a space or the newline after it.
-pub const LONGEST_ANSWER: usize = 11 * numbers::COUNT;
+// The most numbers of an answer: the number, the count and the words of `expect`.
+const MOST_SAID: usize = command::MOST_ROOM as usize + 2;
+
+// The longest answer: as many numbers, each of ten digits with a space or the newline after it.
+pub const LONGEST_ANSWER: usize = 11 * MOST_SAID;
+
+// A word of `expect` that nothing was written into.
+const UNWRITTEN: u32 = 0xAAAAAAAA;
 
 // The current state. Where loaded numbers do not fit the model's types, it is one that every call
 // refuses with the part of these numbers, and the numbers are kept apart.
@@ -141,6 +149,37 @@ pub fn replayed(s: Session, version: u32, records: &[u32], out: &mut [u8], at: u
     let o = played.outcome;
     let end = outcome::put_outcome(o, out, at);
     let state = played.state;
+    Said {
+        session: Session {
+            state,
+            fits: s.fits,
+        },
+        end,
+    }
+}
+
+// Writes the capture expected for records of a version into a run of `room` words, and puts the answer.
+pub fn expected(
+    s: Session,
+    version: u32,
+    room: usize,
+    records: &[u32],
+    out: &mut [u8],
+    at: usize,
+) -> Said
+    requires { ⌜ room ≤ mostRoom ⌝ }
+    requires { ⌜ at + longestAnswer ≤ length (now out) ⌝ }
+    ensures { λ r. ⌜ r .session ≡ moved s (expectedOf (s .state) version room (now (records .entry)) .answer .state) ⌝ }
+    ensures { λ r. ⌜ Appended (now (out .entry)) at (lineOf (writtenNumbers (expectedOf (s .state) version room (now (records .entry))))) (now (out .exit)) (r .end) ⌝ }
+{
+    let mut said = [UNWRITTEN; MOST_SAID];
+    let last = room + 2;
+    let t = s.state;
+    let w = expected::expect(t, version, records, &mut said[2..last]);
+    said[0] = w.number as u32;
+    said[1] = w.count as u32;
+    let end = decimal::put_line(&said[..last], out, at);
+    let state = w.state;
     Said {
         session: Session {
             state,

@@ -1,10 +1,10 @@
 -- The loops over a block: its lines answered one by one, and what is held of its rest moved to its start.
-use Prim.Native.Nat.{ℕ, zero, suc, _+_, _-_, _≤_, _<_, min}
+use Prim.Native.Nat.{ℕ, suc, _+_, _-_, _≤_, _<_, min}
 use mathlib.Core.Path.{refl, _≡_, sym, ap, _∙_}
 use mathlib.Core.Bool.{Bool, true, false, cond, false≢true}
 use mathlib.Core.List.{List, [], _∷_, _++_, append-assoc, append-nil}
 use lib.ListN.{length, getD, take, drop, set, length-set, length-take, length-drop}
-use lib.Seq.{take-suc, take-suc-set, take-nil, take-all, take-take, drop-drop, drop-set-lt, getD-drop, length-take-le}
+use lib.Seq.{take-suc, take-suc-set, take-all, take-take, drop-drop, drop-set-lt, getD-drop, length-take-le}
 use lib.Dec.{eqb}
 use native.Mathlib.Numerals.{add-one}
 use native.Mathlib.Decide.{decLe}
@@ -14,6 +14,7 @@ use Rattle.text.proofs.Texts.{appended-room}
 use Rattle.command.specs.Command.{longestLine}
 use Rattle.current.specs.Current.{longestAnswer}
 use Rattle.session.specs.Session.{Standing, lineSaid, lineNext}
+use Rattle.session.proofs.Answering.{drop-take}
 use Rattle.lines.specs.Lines.{reading, readAfter, writtenAfter, lastSaid, Answered, Answers, heldOf}
 
 -- what a line that ends in d leads to, and what is written for it
@@ -150,18 +151,6 @@ module _ {from : ℕ} {was block : List ℕ} {i : ℕ} where
       }
 
 -- what is held of the bytes from `from` up to `to`
-drop-take : (from to : ℕ) (l : List ℕ) → take (to - from) (drop from l) ≡ drop from (take to l)
-drop-take zero to l =
-    let e : to - 0 ≡ to = omega arith in
-    rw e
-drop-take (suc from) zero l =
-    let e : 0 - suc from ≡ 0 = omega arith in
-    rw e
-drop-take (suc from) (suc to) [] = take-nil (suc to - suc from)
-drop-take (suc from) (suc to) (x ∷ xs) =
-    let e : suc to - suc from ≡ to - from = omega arith in
-    rw e (drop-take from to xs)
-
 pub held-part : (from to n : ℕ) (l : List ℕ) → n ≡ min (to - from) (suc longestLine) → take n (drop from l) ≡ heldOf (drop from (take to l))
 held-part from to n l e = go (decLe (to - from) (suc longestLine)) ∙ ap heldOf (drop-take from to l)
   where

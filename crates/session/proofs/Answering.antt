@@ -1,6 +1,6 @@
 -- A line's answer: that of its command and of the numbers beside it.
-use Prim.Native.Nat.{ℕ, suc, _+_, _-_}
-use mathlib.Core.Path.{_≡_, refl, ap, ap₂, _∙_}
+use Prim.Native.Nat.{ℕ, zero, suc, _-_}
+use mathlib.Core.Path.{_≡_, refl, ap₂, _∙_}
 use mathlib.Core.Bool.{true, false≢true}
 use mathlib.Core.List.{List, [], _∷_}
 use lib.ListN.{take, drop}
@@ -17,20 +17,22 @@ use Rattle.current.specs.Commands.{saidOf, nextOf, keptOf, changesNothing}
 use Rattle.session.specs.Session.{standing, lineSaid, lineNext}
 use Rattle.text.proofs.Texts.{appended-as}
 
--- the records of a replay, which follow its version
-records-front : (m : ℕ) (l : List ℕ) → take m (drop 1 l) ≡ drop 1 (take (suc m) l)
-records-front m [] = take-nil m
-records-front m (x ∷ xs) = refl
-
-pub records-part : (n : ℕ) (l : List ℕ) → take (n + 1 - 1) (drop 1 l) ≡ drop 1 (take (n + 1) l)
-records-part n l =
-    let e : n + 1 - 1 ≡ n = omega arith in
-    let f : suc n ≡ n + 1 = omega arith in
-    ap (λ (m : ℕ). take m (drop 1 l)) e ∙ records-front n l ∙ ap (λ (m : ℕ). drop 1 (take m l)) f
+-- what stands from one place of a list up to another
+pub drop-take : (from to : ℕ) (l : List ℕ) → take (to - from) (drop from l) ≡ drop from (take to l)
+drop-take zero to l =
+    let e : to - 0 ≡ to = omega arith in
+    rw e
+drop-take (suc from) zero l =
+    let e : 0 - suc from ≡ 0 = omega arith in
+    rw e
+drop-take (suc from) (suc to) [] = take-nil (suc to - suc from)
+drop-take (suc from) (suc to) (x ∷ xs) =
+    let e : suc to - suc from ≡ to - from = omega arith in
+    rw e (drop-take from to xs)
 
 -- The commands that `answer` leaves to `query`, by their places in the enum: they change nothing.
 abbrev pub queries : List ℕ
-queries = 2 ∷ 4 ∷ 5 ∷ 6 ∷ 9 ∷ 10 ∷ 11 ∷ []
+queries = 2 ∷ 4 ∷ 5 ∷ 6 ∷ 9 ∷ 10 ∷ 12 ∷ []
 
 pub no-change : (c : Command) → OneOf queries (tagOf the-type c) → changesNothing c ≡ true
 no-change Command.Fresh h = absurd (miss queries 0 tt h)
@@ -44,6 +46,7 @@ no-change (Command.Run n) h = absurd (miss queries 7 tt h)
 no-change (Command.Replay v n) h = absurd (miss queries 8 tt h)
 no-change Command.Part h = refl
 no-change (Command.Divisor c r) h = refl
+no-change (Command.Expect v room n) h = absurd (miss queries 11 tt h)
 no-change Command.Bad h = refl
 
 -- what such a command leaves, and writes
@@ -60,6 +63,7 @@ unchanged s kept ns (Command.Run n) h = absurd (false≢true h)
 unchanged s kept ns (Command.Replay v n) h = absurd (false≢true h)
 unchanged s kept ns Command.Part h = (refl, refl, refl)
 unchanged s kept ns (Command.Divisor c r) h = (refl, refl, refl)
+unchanged s kept ns (Command.Expect v room n) h = absurd (false≢true h)
 unchanged s kept ns Command.Bad h = (refl, refl, refl)
 
 module _ (s : Session) (kept line ns : List ℕ) (c : Command) (e : c ≡ commandOf line) (f : ns ≡ operandsOf line) where

@@ -9,7 +9,7 @@ ghost use mathlib.Core.Path.{_≡_};
 ghost use Prim.Native.Nat.{_+_, _≤_};
 ghost use lib.ListN.{length, take};
 ghost use Rattle.text.specs.Text.{Appended};
-ghost use Rattle.command.specs.Command.{mostNumbers, beside};
+ghost use Rattle.command.specs.Command.{mostNumbers, mostRoom, beside, roomOf};
 ghost use Rattle.numbers.specs.Numbers.{stateCount};
 ghost use Rattle.current.specs.Current.{longestAnswer};
 ghost use Rattle.current.specs.Commands.{saidOf, nextOf, keptOf};
@@ -26,6 +26,7 @@ pub fn answer(
     at: usize,
 ) -> Said
     requires { ⌜ beside c ≤ length (now numbers) ⌝ }
+    requires { ⌜ roomOf c ≤ mostRoom ⌝ }
     requires { ⌜ length (now kept) ≡ stateCount ⌝ }
     requires { ⌜ at + longestAnswer ≤ length (now out) ⌝ }
     ensures { λ r. ⌜ r .session ≡ nextOf s (take (beside c) (now (numbers .entry))) c ⌝ }
@@ -40,6 +41,10 @@ pub fn answer(
         Command::Replay(version, n) => {
             let end = n + 1;
             current::replayed(s, version, &numbers[1..end], out, at)
+        }
+        Command::Expect(version, room, n) => {
+            let end = n + 2;
+            current::expected(s, version, room, &numbers[2..end], out, at)
         }
         _ => Said {
             session: s,

@@ -96,6 +96,23 @@ returns-5 c =
     let e = line-row _ (c .before .before .before .before .before .before .before .before .before .before .before .before .before .before .before .before .before .before .before .word-end .result) (c .before .before .before .before .before .before .before .before .before .before .before .before .before .before .before .before .before .before .before .word-end .ensures .0) (omega arith) _ _ (sym (c .before .before .before .before .before .same4 .ensures) ∙ c .before .before .before .before .if5 .taken) (c .before .before .replay .ensures .0) in
     (e, (c .before .before .replay .ensures .1 .0, line-operands _ (c .before .before .before .before .before .before .before .before .before .before .before .before .before .before .before .before .before .before .before .word-end .result) (c .before .before .before .before .before .before .before .before .before .before .before .before .before .before .before .before .before .before .before .word-end .ensures .0) (omega arith) _ _ e (c .before .before .replay .ensures .1 .1)))
 
+slice-aggregate-same-5 : tie.Need-slice-aggregate-same-5
+slice-aggregate-same-5 c = search needs
+
+same-requires-5 : tie.Need-same-requires-5
+same-requires-5 c κs = search needs
+
+expect-requires : tie.Need-expect-requires
+expect-requires c κs = search needs
+
+same-length-3 : tie.Need-same-length-3
+same-length-3 c = search needs
+
+returns-6 : tie.Need-returns-6
+returns-6 c =
+    let e = line-row _ (c .before .before .before .before .before .before .before .before .before .before .before .before .before .before .before .before .before .before .before .before .before .before .word-end .result) (c .before .before .before .before .before .before .before .before .before .before .before .before .before .before .before .before .before .before .before .before .before .before .word-end .ensures .0) (omega arith) _ _ (sym (c .before .before .before .before .before .same5 .ensures) ∙ c .before .before .before .before .if6 .taken) (c .before .before .expect .ensures .0) in
+    (e, (c .before .before .expect .ensures .1 .0, line-operands _ (c .before .before .before .before .before .before .before .before .before .before .before .before .before .before .before .before .before .before .before .before .before .before .word-end .result) (c .before .before .before .before .before .before .before .before .before .before .before .before .before .before .before .before .before .before .before .before .before .before .word-end .ensures .0) (omega arith) _ _ e (c .before .before .expect .ensures .1 .1)))
+
 number-of-requires : tie.Need-number-of-requires
 number-of-requires c κs = search needs
 
@@ -103,19 +120,19 @@ enum-known-n : tie.Need-enum-known-n
 enum-known-n c = search needs
 
 with-number-requires : tie.Need-with-number-requires
-with-number-requires c κs = sym (c .before .before .before .before .before .same4 .ensures) ∙ c .before .before .before .before .if5 .left
+with-number-requires c κs = sym (c .before .before .before .before .before .before .before .before .same4 .ensures) ∙ c .before .before .before .before .before .before .before .if5 .left
 
 enum-told : tie.Need-enum-told
 enum-told c = search needs
 
-returns-6 : tie.Need-returns-6
-returns-6 c =
-    let e = line-number _ (c .before .before .before .before .before .before .before .before .before .before .before .before .before .before .before .before .before .before .before .before .word-end .result) (c .before .before .before .before .before .before .before .before .before .before .before .before .before .before .before .before .before .before .before .before .word-end .ensures .0) (omega arith) _ (c .before .before .n .given .0 .0) (sym (c .before .before .before .before .number-of .ensures) ∙ c .before .before .n .given .1) (c .with-number .ensures .0) in
-    (e, (omega (arith, c .with-number .ensures .1), no-operands _ _ _ e (c .with-number .ensures .1)))
-
 returns-7 : tie.Need-returns-7
 returns-7 c =
-    let e = line-none _ (c .before .before .before .before .before .before .before .before .before .before .before .before .before .before .before .before .before .before .word-end .result) (c .before .before .before .before .before .before .before .before .before .before .before .before .before .before .before .before .before .before .word-end .ensures .0) (omega arith) (sym (c .before .before .number-of .ensures) ∙ c .enum-told .given .1) (sym (c .before .before .before .before .before .before .before .before .before .before .before .before .before .same .ensures) ∙ c .before .before .before .before .before .before .before .before .before .before .before .before .if2 .left) (sym (c .before .before .before .before .before .before .before .before .before .before .same2 .ensures) ∙ c .before .before .before .before .before .before .before .before .before .if3 .left) (sym (c .before .before .before .before .before .before .before .same3 .ensures) ∙ c .before .before .before .before .before .before .if4 .left) (sym (c .before .before .before .before .same4 .ensures) ∙ c .before .before .before .if5 .left) in
+    let e = line-number _ (c .before .before .before .before .before .before .before .before .before .before .before .before .before .before .before .before .before .before .before .before .before .before .before .word-end .result) (c .before .before .before .before .before .before .before .before .before .before .before .before .before .before .before .before .before .before .before .before .before .before .before .word-end .ensures .0) (omega arith) _ (c .before .before .n .given .0 .0) (sym (c .before .before .before .before .number-of .ensures) ∙ c .before .before .n .given .1) (c .with-number .ensures .0) in
+    (e, (omega (arith, c .with-number .ensures .1), no-operands _ _ _ e (c .with-number .ensures .1)))
+
+returns-8 : tie.Need-returns-8
+returns-8 c =
+    let e = line-none _ (c .before .before .before .before .before .before .before .before .before .before .before .before .before .before .before .before .before .before .before .before .before .word-end .result) (c .before .before .before .before .before .before .before .before .before .before .before .before .before .before .before .before .before .before .before .before .before .word-end .ensures .0) (omega arith) (sym (c .before .before .number-of .ensures) ∙ c .enum-told .given .1) (sym (c .before .before .before .before .before .before .before .before .before .before .before .before .before .before .before .before .same .ensures) ∙ c .before .before .before .before .before .before .before .before .before .before .before .before .before .before .before .if2 .left) (sym (c .before .before .before .before .before .before .before .before .before .before .before .before .before .same2 .ensures) ∙ c .before .before .before .before .before .before .before .before .before .before .before .before .if3 .left) (sym (c .before .before .before .before .before .before .before .before .before .before .same3 .ensures) ∙ c .before .before .before .before .before .before .before .before .before .if4 .left) (sym (c .before .before .before .before .before .before .before .same4 .ensures) ∙ c .before .before .before .before .before .before .if5 .left) (sym (c .before .before .before .before .same5 .ensures) ∙ c .before .before .before .if6 .left) in
     (e, (omega arith, no-operands _ [] _ e refl))
 
 pub command-of-spec : {M : Type 1} → statement M
@@ -148,9 +165,14 @@ command-of-spec =
     replay-requires
     same-length-2
     returns-5
+    slice-aggregate-same-5
+    same-requires-5
+    expect-requires
+    same-length-3
+    returns-6
     number-of-requires
     enum-known-n
     with-number-requires
     enum-told
-    returns-6
-    returns-7)
+    returns-7
+    returns-8)

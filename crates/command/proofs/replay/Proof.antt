@@ -1,6 +1,6 @@
 -- The first number is the version, and the others are the records.
-use Rattle.command.proofs.Reading.{replay-none, replay-large, replay-some}
-use Prim.Native.Nat.{_+_, _-_}
+use Rattle.command.proofs.Versioned.{replay-none, replay-large, replay-many, replay-some}
+use Prim.Native.Nat.{_+_, _-_, _<_}
 use mathlib.Core.Path.{_≡_, refl}
 use native.Mathlib.Omega.{arith}
 use borrow.Author.Needs.{needs}
@@ -14,7 +14,9 @@ same-length : tie.Need-same-length
 same-length c = search needs
 
 returns : tie.Need-returns
-returns c = (replay-none _ _ (rw (c .before .before .before .before .before .before .before .pre) at (c .before .before .before .read-numbers .ensures .0)) (c .if1 .taken), (omega arith, refl))
+returns c =
+    let e = rw (c .before .before .before .before .before .before .before .pre) at (c .before .before .before .read-numbers .ensures .0) in
+    (replay-none _ _ e (c .if1 .taken), (omega arith, refl))
 
 slice-read-version : tie.Need-slice-read-version
 slice-read-version c = search needs
@@ -25,20 +27,30 @@ same-length-2 c = search needs
 returns-2 : tie.Need-returns-2
 returns-2 c =
     let e = rw (c .before .before .before .before .before .before .before .before .before .pre) at (c .before .before .before .before .before .read-numbers .ensures .0) in
-    (replay-large _ _ e _ (c .before .before .before .before .before .read-numbers .ensures .1 .1) (c .before .before .if1 .left) (c .if2 .taken), (omega arith, refl))
+    let h : 0 < c .before .before .before .before .before .read-numbers .result = omega (arith, c .before .before .if1 .left) in
+    (replay-large _ _ e _ (c .before .before .before .before .before .read-numbers .ensures .1 .1) h (c .if2 .taken), (omega arith, refl))
 
-sub-t10 : tie.Need-sub-t10
-sub-t10 c = search needs
+sub-records : tie.Need-sub-records
+sub-records c = search needs
 
 same-length-3 : tie.Need-same-length-3
 same-length-3 c = search needs
 
 returns-3 : tie.Need-returns-3
 returns-3 c =
-    let n = c .before .before .before .before .before .read-numbers .result in
-    let e = rw (c .before .before .before .before .before .before .before .before .before .pre) at (c .before .before .before .before .before .read-numbers .ensures .0) in
-    let q : n - 1 + 1 ≡ n = omega (arith, c .before .before .if1 .left) in
-    (replay-some _ _ e _ (c .before .before .before .before .before .read-numbers .ensures .1 .1) (c .before .before .if1 .left) (omega arith), (omega (arith, q, c .before .before .before .before .before .read-numbers .ensures .1 .0, c .before .before .before .before .before .before .before .before .before .pre), rw q (c .before .before .before .before .before .read-numbers .ensures .1 .1)))
+    let e = rw (c .before .before .before .before .before .before .before .before .before .before .pre) at (c .before .before .before .before .before .before .read-numbers .ensures .0) in
+    let h : 0 < c .before .before .before .before .before .before .read-numbers .result = omega (arith, c .before .before .before .if1 .left) in
+    (replay-many _ _ e _ (c .before .before .before .before .before .before .read-numbers .ensures .1 .1) h (omega arith) (c .if3 .taken), (omega arith, refl))
+
+same-length-4 : tie.Need-same-length-4
+same-length-4 c = search needs
+
+returns-4 : tie.Need-returns-4
+returns-4 c =
+    let e = rw (c .before .before .before .before .before .before .before .before .before .before .pre) at (c .before .before .before .before .before .before .read-numbers .ensures .0) in
+    let h : 0 < c .before .before .before .before .before .before .read-numbers .result = omega (arith, c .before .before .before .if1 .left) in
+    let q : c .before .before .before .before .before .before .read-numbers .result - 1 + 1 ≡ c .before .before .before .before .before .before .read-numbers .result = omega arith in
+    (replay-some _ _ e _ (c .before .before .before .before .before .before .read-numbers .ensures .1 .1) h (omega arith) (omega arith), (omega arith, rw q (c .before .before .before .before .before .before .read-numbers .ensures .1 .1)))
 
 pub replay-spec : {M : Type 1} → statement M
 replay-spec =
@@ -50,6 +62,8 @@ replay-spec =
     slice-read-version
     same-length-2
     returns-2
-    sub-t10
+    sub-records
     same-length-3
-    returns-3)
+    returns-3
+    same-length-4
+    returns-4)

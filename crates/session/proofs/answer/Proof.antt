@@ -1,6 +1,6 @@
 -- Each command has the answer and the state that the definitions have.
 use lib.Seq.{length-take-le}
-use Rattle.session.proofs.Answering.{records-part, no-change, unchanged}
+use Rattle.session.proofs.Answering.{drop-take, no-change, unchanged}
 use Rattle.command.specs.Command.{beside}
 use Rattle.numbers.specs.Numbers.{stateCount}
 use Rattle.text.proofs.Texts.{appended-as}
@@ -36,7 +36,7 @@ slice-aggregate-load c =
 load-requires : tie.Need-load-requires
 load-requires c κs =
     let h : stateCount ≤ length (c .before .before .before .before .before .before .before .before .args .numbers .now) = rw (c .before .before .before .enum-told2 .given .1) at (c .before .before .before .before .before .before .before .before .pre .0) in
-    (length-take-le stateCount (c .before .before .before .before .before .before .before .before .args .numbers .now) h, (c .before .before .before .before .before .before .before .before .pre .1 .0, omega arith))
+    (length-take-le stateCount (c .before .before .before .before .before .before .before .before .args .numbers .now) h, (c .before .before .before .before .before .before .before .before .pre .1 .1 .0, omega arith))
 
 enum-known-c-2 : tie.Need-enum-known-c-2
 enum-known-c-2 c = search needs
@@ -64,8 +64,28 @@ part-replayed-end c = rw (c .before .c3 .given .1) at (c .before .before .before
 replayed-requires : tie.Need-replayed-requires
 replayed-requires c κs = search needs
 
+enum-known-c-4 : tie.Need-enum-known-c-4
+enum-known-c-4 c = search needs
+
+add-end-2 : tie.Need-add-end-2
+add-end-2 c =
+    let h : c .before .c4 .given .0 .1 .1 .0 + 2 ≤ length (c .before .before .before .before .before .before .args .numbers .now) = rw (c .before .c4 .given .1) at (c .before .before .before .before .before .before .pre .0) in
+    omega (arith, h)
+
+sub-expected : tie.Need-sub-expected
+sub-expected c = search needs
+
+part-expected-start : tie.Need-part-expected-start
+part-expected-start c = search needs
+
+part-expected-end : tie.Need-part-expected-end
+part-expected-end c = rw (c .before .c4 .given .1) at (c .before .before .before .before .before .before .pre .0)
+
+expected-requires : tie.Need-expected-requires
+expected-requires c κs = (rw (c .before .before .before .c4 .given .1) at (c .before .before .before .before .before .before .before .before .pre .1 .0), search needs)
+
 put-answer-requires : tie.Need-put-answer-requires
-put-answer-requires c κs = (no-change (c .before .before .before .before .before .before .args .c) (c .before .before .match .keys6), search needs)
+put-answer-requires c κs = (no-change (c .before .before .before .before .before .before .args .c) (c .before .before .match .keys7), search needs)
 
 same-length : tie.Need-same-length
 same-length c = c .before .before .stepped .kept .1 .1 .0
@@ -104,19 +124,28 @@ same-length-6 c = c .before .before .replayed .kept .1 .1 .1 .0
 returns-5 : tie.Need-returns-5
 unfolding nextOf keptOf saidOf
 returns-5 c =
-    let p = records-part (c .before .before .before .before .before .before .c3 .given .0 .1 .0) (c .before .before .before .before .before .before .before .before .before .before .before .args .numbers .now) in
+    let p = drop-take 1 (c .before .before .before .before .before .before .c3 .given .0 .1 .0 + 1) (c .before .before .before .before .before .before .before .before .before .before .before .args .numbers .now) in
     rw (c .before .before .before .before .before .before .c3 .given .1) (rw p at (c .before .before .replayed .ensures .0), (refl, rw p at (c .before .before .replayed .ensures .1)))
 
 same-length-7 : tie.Need-same-length-7
-same-length-7 c = search needs
-
-same-length-8 : tie.Need-same-length-8
-same-length-8 c = c .before .before .put-answer .kept .1 .1 .1 .0
+same-length-7 c = c .before .before .expected .kept .1 .1 .1 .1 .0
 
 returns-6 : tie.Need-returns-6
+unfolding nextOf keptOf saidOf
 returns-6 c =
+    let p = drop-take 2 (c .before .before .before .before .before .before .c4 .given .0 .1 .1 .0 + 2) (c .before .before .before .before .before .before .before .before .before .before .before .args .numbers .now) in
+    rw (c .before .before .before .before .before .before .c4 .given .1) (rw p at (c .before .before .expected .ensures .0), (refl, rw p at (c .before .before .expected .ensures .1)))
+
+same-length-8 : tie.Need-same-length-8
+same-length-8 c = search needs
+
+same-length-9 : tie.Need-same-length-9
+same-length-9 c = c .before .before .put-answer .kept .1 .1 .1 .0
+
+returns-7 : tie.Need-returns-7
+returns-7 c =
     let a = c .before .before .before .before .before .before .before .before .before .args in
-    let same = unchanged (a .s) (a .kept .now) (take (beside (a .c)) (a .numbers .now)) (a .c) (no-change (a .c) (c .before .before .before .before .before .match .keys6)) in
+    let same = unchanged (a .s) (a .kept .now) (take (beside (a .c)) (a .numbers .now)) (a .c) (no-change (a .c) (c .before .before .before .before .before .match .keys7)) in
     (same .0, (same .1, appended-as (same .2) (c .before .before .put-answer .ensures)))
 
 pub answer-spec : {M : Type 1} → statement M
@@ -138,6 +167,12 @@ answer-spec =
     part-replayed-start
     part-replayed-end
     replayed-requires
+    enum-known-c-4
+    add-end-2
+    sub-expected
+    part-expected-start
+    part-expected-end
+    expected-requires
     put-answer-requires
     same-length
     returns
@@ -151,5 +186,7 @@ answer-spec =
     same-length-6
     returns-5
     same-length-7
+    returns-6
     same-length-8
-    returns-6)
+    same-length-9
+    returns-7)

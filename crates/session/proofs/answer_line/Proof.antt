@@ -1,5 +1,10 @@
 -- The command is that of the line, and so are the numbers beside it.
 use Rattle.session.proofs.Answering.{line-next, line-said}
+use Prim.Native.Nat.{_≤_}
+use mathlib.Core.Path.{sym, subst}
+use Rattle.command.specs.declared.Command.{Command}
+use Rattle.command.specs.Command.{mostRoom, roomOf}
+use Rattle.command.proofs.Room.{room-most}
 use borrow.Author.Needs.{needs}
 use Rattle.session.proofs.answer_line.Statement.{statement}
 use Rattle.session.proofs.answer_line.Tie as tie
@@ -8,7 +13,7 @@ command-of-requires : tie.Need-command-of-requires
 command-of-requires c κs = search needs
 
 answer-requires : tie.Need-answer-requires
-answer-requires c κs = search needs
+answer-requires c κs = (search needs, (subst (λ (x : Command). roomOf x ≤ mostRoom) (sym (c .before .before .before .before .before .command-of .ensures .0)) (room-most _), search needs))
 
 same-length : tie.Need-same-length
 same-length c = search needs
