@@ -15,6 +15,8 @@ use Rattle.device.specs.declared.Ran.{Ran}
 use Rattle.capture.specs.declared.Values.{Values}
 use Rattle.client.specs.declared.Replay.{Replay}
 use Rattle.client.specs.declared.file.Progress.{Progress}
+use Rattle.expected.specs.declared.Expected.{Expected}
+use Rattle.expected_file.specs.declared.Progress as expecting
 use Rattle.rate.specs.declared.Picked.{Picked}
 use Rattle.export.specs.declared.layout.Sizes.{Sizes}
 
@@ -128,6 +130,12 @@ progressShape = structOf (word ∷ byte ∷ index ∷ valuesShape ∷ stateShape
 abbrev pub pickedShape : Shape
 pickedShape = structOf (byte ∷ word ∷ word ∷ [])
 
+abbrev pub expectedShape : Shape
+expectedShape = structOf (byte ∷ byte ∷ index ∷ stateShape ∷ [])
+
+abbrev pub expectProgressShape : Shape
+expectProgressShape = structOf (byte ∷ byte ∷ word ∷ index ∷ stateShape ∷ [])
+
 -- the sizes of the structs that a caller has
 abbrev pub sizes : Sizes
 sizes =
@@ -141,6 +149,8 @@ sizes =
       replayed = replayedShape .size;
       progress = progressShape .size;
       picked = pickedShape .size;
+      expected = expectedShape .size;
+      expecting = expectProgressShape .size;
     }
 
 -- The specimens.
@@ -207,3 +217,16 @@ progressSpecimen =
 
 abbrev pub pickedSpecimen : Picked
 pickedSpecimen = record { number = 100; divisor = fourTimes 114; error = pos (fourTimes 115) }
+
+abbrev pub expectedSpecimen : Expected
+expectedSpecimen = record { number = 100; part = 113; count = eightTimes 116; state = stateSpecimen }
+
+abbrev pub expectProgressSpecimen : expecting.Progress
+expectProgressSpecimen =
+    record {
+      number = 100;
+      part = 113;
+      version = fourTimes 110;
+      count = eightTimes 116;
+      state = stateSpecimen;
+    }

@@ -7,7 +7,8 @@
 // the number answered is field 100; the byte, the ticks, the level, the ticks used and a replay's byte
 // seen are field 101; the output pins are fields 102..107; a replay's byte of the model is field 108,
 // its place field 109; a file's version, what stopped it and the records done are fields 110..112; the
-// part of the state that is bad is field 113; a divisor and its error are fields 114 and 115.
+// part of the state that is bad is field 113; a divisor and its error are fields 114 and 115; the words
+// that were written are field 116.
 use capture::Values;
 use client::Replay;
 use client::file::Progress;
@@ -25,13 +26,14 @@ use device::Ran;
 use device::Receiver;
 use device::Registers;
 use device::State;
+use expected::Expected;
 use queue::ByteQueue;
 use queue::Entry;
 use queue::EntryQueue;
 use queue::Errors;
 use rate::Picked;
 ghost use mathlib.Core.Path.{_≡_};
-ghost use Rattle.export.specs.Layout.{sizes, stateSpecimen, answerSpecimen, lookedSpecimen, forecastedSpecimen, leveledSpecimen, ranSpecimen, valuesSpecimen, replayedSpecimen, progressSpecimen, pickedSpecimen};
+ghost use Rattle.export.specs.Layout.{sizes, stateSpecimen, answerSpecimen, lookedSpecimen, forecastedSpecimen, leveledSpecimen, ranSpecimen, valuesSpecimen, replayedSpecimen, progressSpecimen, pickedSpecimen, expectedSpecimen, expectProgressSpecimen};
 
 // The sizes in bytes.
 #[repr(C)]
@@ -45,6 +47,8 @@ pub struct Sizes {
     pub replayed: u32,
     pub progress: u32,
     pub picked: u32,
+    pub expected: u32,
+    pub expecting: u32,
 }
 
 #[no_mangle]
@@ -61,6 +65,8 @@ pub extern "C" fn uart_sizes_of_structs() -> Sizes
         replayed: 400,
         progress: 416,
         picked: 12,
+        expected: 400,
+        expecting: 400,
     }
 }
 
@@ -239,5 +245,30 @@ pub extern "C" fn uart_specimen_picked() -> Picked
         number: 100,
         divisor: 0x72727272,
         error: 0x73737373,
+    }
+}
+
+#[no_mangle]
+pub extern "C" fn uart_specimen_expected() -> Expected
+    ensures { λ r. ⌜ r ≡ expectedSpecimen ⌝ }
+{
+    Expected {
+        number: 100,
+        part: 113,
+        count: 0x7474747474747474,
+        state: uart_specimen_state(),
+    }
+}
+
+#[no_mangle]
+pub extern "C" fn uart_specimen_expect_progress() -> expected_file::Progress
+    ensures { λ r. ⌜ r ≡ expectProgressSpecimen ⌝ }
+{
+    expected_file::Progress {
+        number: 100,
+        part: 113,
+        version: 0x6e6e6e6e,
+        count: 0x7474747474747474,
+        state: uart_specimen_state(),
     }
 }

@@ -1,6 +1,7 @@
 // The calls for programs in C, Rust and other languages, under plain names: `rt staticlib export`
 // makes the library that they link. The structs go by value, a run of records as its address and
-// length, and each call has the contract of the call of `uart`, `foretell`, `client` or `rate` that it hands on.
+// length, and each call has the contract of the call of `uart`, `foretell`, `client`, `expected`,
+// `expected_file` or `rate` that it hands on.
 // clients/tl16c750.h declares the same for C.
 pub mod layout;
 
@@ -14,17 +15,20 @@ use device::Leveled;
 use device::Looked;
 use device::Ran;
 use device::State;
+use expected::Expected;
 use rate::Picked;
 ghost use mathlib.Core.Path.{_≡_};
 ghost use mathlib.Core.List.{List, [], _++_};
-ghost use lib.ListN.{length, drop};
+ghost use lib.ListN.{length, take, drop};
 ghost use Prim.Native.Nat.{ℕ, _+_, _*_, _/_, _≤_, _<_, _^_};
 ghost use Rattle.device.specs.State.{freshOf};
 ghost use Rattle.device.specs.Calls.{resetOf, readOf, writeOf, sinOf, modemOf, tickOf, ticksOf, ticksAnswer, pinsOf};
 ghost use Rattle.device.specs.Transmitter.{line};
 ghost use Rattle.device.specs.Forecast.{forecastOf, levelOf, runOf, Foretold, StopsInTime};
-ghost use Rattle.capture.specs.Replay.{replayOf, Agrees};
+ghost use Rattle.capture.specs.Replay.{agreed as «agreed-in», replayOf, Agrees};
 ghost use Rattle.capture.specs.Replay.{refused as «refused-at»};
+ghost use Rattle.expected.specs.Expected.{expectOf};
+ghost use Rattle.expected_file.specs.File.{after, expectedOf, begunOf, madeBy, restOf as «rest-made»};
 ghost use Rattle.capture_file.specs.File.{captureOf, restOf};
 ghost use Rattle.client.specs.Replay.{replayAnswer};
 ghost use Rattle.rate.specs.Rate.{divisorFor, Nearest};
@@ -39,16 +43,16 @@ pub struct Versions {
     pub layout: u32,
 }
 
-// Which library this is: 0.5.0, with the fourth layout.
+// Which library this is: 0.6.0, with the fifth layout.
 #[no_mangle]
 pub extern "C" fn uart_version() -> Versions
-    ensures { λ r. ⌜ r ≡ record { major = 0; minor = 5; patch = 0; layout = 4 } ⌝ }
+    ensures { λ r. ⌜ r ≡ record { major = 0; minor = 6; patch = 0; layout = 5 } ⌝ }
 {
     Versions {
         major: 0,
-        minor: 5,
+        minor: 6,
         patch: 0,
-        layout: 4,
+        layout: 5,
     }
 }
 
@@ -161,6 +165,21 @@ pub extern "C" fn uart_replay(s: State, version: u32, records: &[u32]) -> Replay
     client::replay_records(s, version, records)
 }
 
+// The capture that is expected for records of a version: each as it stands, but a read with the model's
+// byte, written into a second run of words. Replayed from the same state, what was written agrees.
+#[no_mangle]
+pub extern "C" fn uart_expect(
+    s: State,
+    version: u32,
+    records: &[u32],
+    words: &mut [u32],
+) -> Expected
+    ensures outcome { λ r. ⌜ record { answer = r; words = now (words .exit) } ≡ expectOf version s (now (records .entry)) (now (words .entry)) ⌝ }
+    ensures replayed { λ r. ⌜ ((r .number ≡ 1 → ⊥) → (r .number ≡ 7 → ⊥) → replayOf version s (take (r .count) (now (words .exit))) ≡ «agreed-in» (r .state)) ⌝ }
+{
+    expected::expect(s, version, records, words)
+}
+
 // A capture's file that begins with these bytes: their first eight are its header, and what follows comes
 // again with the next part. Where they are fewer they are all of the file.
 #[no_mangle]
@@ -193,6 +212,45 @@ pub extern "C" fn uart_replay_end(p: Progress, bytes: &[u8]) -> Replay
     ensures agreed { λ r. ⌜ (ToldSoFar p → r .values .number ≡ 0 → r .values .seen ≡ r .values .model → restOf (carriedOf p) (now (bytes .entry)) .outcome ≡ Outcome.Agreed) ⌝ }
 {
     file::end(p, bytes)
+}
+
+// The capture expected for a file that begins with these bytes: their first eight are its header, to be
+// written as they are where the number is 0. Where they are fewer they are all of the file.
+#[no_mangle]
+pub extern "C" fn uart_expect_begin(first: &[u8]) -> expected_file::Progress
+    ensures { λ r. ⌜ r ≡ begunOf (now (first .entry)) ⌝ }
+    ensures { λ r. ⌜ (r .number ≡ 0 → (rest : List ℕ) → after (take 8 (now (first .entry))) («rest-made» r (drop 8 (now (first .entry)) ++ rest)) ≡ expectedOf (now (first .entry) ++ rest)) ⌝ }
+    ensures { λ r. ⌜ ((r .number ≡ 0 → ⊥) → 8 ≤ length (now (first .entry)) → (rest : List ℕ) → «rest-made» r rest ≡ expectedOf (now (first .entry) ++ rest)) ⌝ }
+    ensures { λ r. ⌜ (length (now (first .entry)) < 8 → «rest-made» r [] ≡ expectedOf (now (first .entry))) ⌝ }
+{
+    expected_file::begin(first)
+}
+
+// Writes anew, in place, the whole records of the bytes that come next. One to three bytes that are left
+// come again at the start of the next part.
+#[no_mangle]
+pub extern "C" fn uart_expect_more(
+    p: expected_file::Progress,
+    bytes: &mut [u8],
+) -> expected_file::Progress
+    ensures { λ r. ⌜ ((rest : List ℕ) → after (take (4 * r .count) (now (bytes .exit))) («rest-made» r (drop (4 * (length (now (bytes .entry)) / 4)) (now (bytes .entry)) ++ rest)) ≡ «rest-made» p (now (bytes .entry) ++ rest)) ⌝ }
+    ensures { λ r. ⌜ drop (4 * r .count) (now (bytes .exit)) ≡ drop (4 * r .count) (now (bytes .entry)) ⌝ }
+    ensures { λ r. ⌜ 4 * r .count ≤ length (now (bytes .exit)) ⌝ }
+{
+    expected_file::go_on(p, bytes)
+}
+
+// The same for the bytes with which a file ends. One to three that are left are refused.
+#[no_mangle]
+pub extern "C" fn uart_expect_end(
+    p: expected_file::Progress,
+    bytes: &mut [u8],
+) -> expected_file::Progress
+    ensures { λ r. ⌜ madeBy r (take (4 * r .count) (now (bytes .exit))) ≡ «rest-made» p (now (bytes .entry)) ⌝ }
+    ensures { λ r. ⌜ drop (4 * r .count) (now (bytes .exit)) ≡ drop (4 * r .count) (now (bytes .entry)) ⌝ }
+    ensures { λ r. ⌜ 4 * r .count ≤ length (now (bytes .exit)) ⌝ }
+{
+    expected_file::end(p, bytes)
 }
 
 // The divisor for a rate from a clock, and its error in parts per million. It takes no state.
