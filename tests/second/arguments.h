@@ -1,4 +1,4 @@
-/* What both programs do with their arguments first. */
+/* What the programs do with their arguments first. */
 #ifndef ARGUMENTS_H
 #define ARGUMENTS_H
 
@@ -12,6 +12,6 @@
  * other is told on standard error, and nothing is answered. Other arguments are files, where the
  * program takes these, and are told too where it does not.
  */
-void arguments_take(int argc, char **argv, bool files, const char *help);
+void arguments_take(const char *program, int argc, char **argv, bool files, const char *help);
 
 #endif

@@ -1,10 +1,11 @@
 #!/usr/bin/env python3
-"""Checks what `calls` and `replay` make of their arguments.
+"""Checks what the programs make of their arguments.
 
-usage: arguments.py CALLS REPLAY STATUS
+usage: arguments.py STATUS PROGRAM..
 
-STATUS is that of an unknown argument or a file that cannot be read: 2 of the second program, 0 of
-the proved programs, which set none. Either tells it on standard error and answers nothing there.
+Each PROGRAM is `calls`, `replay` or `expect`, by its name. STATUS is that of an unknown argument or a
+file that cannot be read: 2 of the second program, 0 of the proved programs, which set none. Either
+tells it on standard error and answers nothing there.
 """
 
 import os
@@ -37,6 +38,26 @@ REPLAY = (
     (["-x", "--help"], "", True),
 )
 
+# Arguments of `expect`, which takes one file. Standard input is DIFFERS.
+EXPECT = (
+    ([], AGREES.decode(), False),
+    (["-"], AGREES.decode(), False),
+    (["a"], AGREES.decode(), False),
+    (["d"], AGREES.decode(), False),
+    (["a", "a"], "", True),
+    (["a", "d", "a"], "", True),
+    (["-", "a"], "", True),
+    (["none"], "", True),
+    (["none", "a"], "", True),
+    (["."], "", True),
+    ([""], "", True),
+    (["--list"], "", True),
+    (["-x"], "", True),
+    (["a", "-x"], "", True),
+    (["--"], "", True),
+    (["-x", "--help"], "", True),
+)
+
 # Arguments of `calls`. Standard input is a line.
 CALLS = (
     ([], "0\n", False),
@@ -45,6 +66,13 @@ CALLS = (
     (["--helps"], "", True),
     (["a", "--help"], "", True),
 )
+
+# Of each program: its cases, its standard input, arguments for which it writes its help.
+OF_PROGRAM = {
+    "calls": (CALLS, b"fresh\n", (["--help"], ["--help", "a"])),
+    "replay": (REPLAY, DIFFERS, (["--help"], ["a", "--help"], ["--help", "-x"])),
+    "expect": (EXPECT, DIFFERS, (["--help"], ["a", "--help"], ["--help", "-x"])),
+}
 
 
 def run(program, arguments, data, folder):
@@ -76,19 +104,20 @@ def wrong_helps(program, cases, folder):
 
 
 def main():
-    if len(sys.argv) != 4:
+    if len(sys.argv) < 3:
         sys.exit(__doc__.strip())
-    calls, replay = map(os.path.abspath, sys.argv[1:3])
-    trouble = int(sys.argv[3])
+    trouble = int(sys.argv[1])
+    count = wrong = 0
     with tempfile.TemporaryDirectory() as folder:
         for name, data in (("a", AGREES), ("d", DIFFERS)):
             with open(os.path.join(folder, name), "wb") as file:
                 file.write(data)
-        wrong = wrong_answers(replay, REPLAY, DIFFERS, folder, trouble)
-        wrong += wrong_answers(calls, CALLS, b"fresh\n", folder, trouble)
-        wrong += wrong_helps(replay, (["--help"], ["a", "--help"], ["--help", "-x"]), folder)
-        wrong += wrong_helps(calls, (["--help"], ["--help", "a"]), folder)
-    print("arguments: %d cases, %d wrong" % (len(REPLAY) + len(CALLS) + 5, wrong))
+        for program in map(os.path.abspath, sys.argv[2:]):
+            cases, data, helps = OF_PROGRAM[os.path.basename(program)]
+            wrong += wrong_answers(program, cases, data, folder, trouble)
+            wrong += wrong_helps(program, helps, folder)
+            count += len(cases) + len(helps)
+    print("arguments: %d cases, %d wrong" % (count, wrong))
     sys.exit(1 if wrong else 0)
 
 

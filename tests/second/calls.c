@@ -6,27 +6,31 @@
 #include "arguments.h"
 #include "capture.h"
 #include "divisor.h"
+#include "expected.h"
 #include "stream.h"
 
 #include <stdlib.h>
 #include <string.h>
 #include <unistd.h>
 
+#define PROGRAM "calls"
 #define BLOCK 65536u
 #define MOST_WORDS 1024u
-#define MOST_NUMBERS (1u + MOST_WORDS)
-/* The longest valid line is `replay`, a version and 1,024 times a space and ten digits. */
-#define LONGEST_LINE (sizeof "replay 65535" - 1u + MOST_WORDS * 11u)
-/* The longest answer is the numbers of a state, a space or the newline after each. */
-#define LONGEST_ANSWER (UART_STATE_PLACES * 11u)
+#define MOST_NUMBERS (2u + MOST_WORDS)
 #define MOST_DIGITS 10u
+/* The longest valid line is `expect`, its numbers and 1,024 times a space and ten digits. */
+#define LONGEST_LINE (sizeof "expect 65535 1024" - 1u + MOST_WORDS * (1u + MOST_DIGITS))
+/* The longest answer is that of `expect`: number, count and as many words. */
+#define LONGEST_ANSWER (sizeof "16 1024\n" - 1u + MOST_WORDS * (1u + MOST_DIGITS))
+/* What a word of the run of `expect` is before. */
+#define UNWRITTEN 2863311530u
 
 static const char help[] =
     "usage: calls [--help]\n"
     "\n"
     "Takes calls from standard input, one to a line, and writes a line of answer for each:\n"
     "fresh, load V1 .. V351, state, reset, read A, write A B, sin V, modem V, tick, ticks N,\n"
-    "pins, forecast, level T, run N, replay V W.., part, divisor CLOCK RATE.\n"
+    "pins, forecast, level T, run N, replay V W.., part, divisor CLOCK RATE, expect V ROOM W..\n"
     "Any other line is answered bad.\n"
     "\n"
     "The exit status is 0, or 2 where an argument is unknown, or reading or writing failed.\n";
@@ -44,8 +48,10 @@ static size_t out_used;
 
 static void flush_output(void)
 {
-    if (!stream_write(out, out_used))
+    if (!stream_write(out, out_used)) {
+        stream_trouble(PROGRAM, STANDARD_OUTPUT);
         exit(EXIT_TROUBLE);
+    }
     out_used = 0;
 }
 
@@ -225,37 +231,53 @@ static void call_divisor(void)
     put_divisor(divisor_pick(given[0], given[1]));
 }
 
+/* The version and the room, then records: number and count, and the room's words as they are then. */
+static void call_expect(void)
+{
+    static uint32_t numbers[2u + MOST_WORDS];
+    uint32_t *words = numbers + 2;
+    struct expected_answer a;
+
+    for (size_t i = 0; i < given[1]; i++)
+        words[i] = UNWRITTEN;
+    a = expected(&current, given[0], given + 2, given_count - 2, words, given[1]);
+    numbers[0] = a.number;
+    numbers[1] = (uint32_t)a.count;
+    put_numbers(numbers, 2u + given[1]);
+}
+
 /*
- * A form: its word, how many numbers follow and the range of each, and how many
- * words of any 32 bits may come after these.
+ * A form: its word, how many numbers follow, the least of each, the most of the
+ * first and of each behind it, and how many words of any 32 bits may come after these.
  */
 struct form {
     const char *word;
     size_t numbers;
     uint32_t least;
-    uint32_t most;
+    uint32_t most[2];
     size_t words;
     void (*call)(void);
 };
 
 static const struct form forms[] = {
-    { "tick", 0, 0, 0, 0, call_tick },
-    { "ticks", 1, 1, UINT32_MAX, 0, call_ticks },
-    { "read", 1, 0, 255, 0, call_read },
-    { "write", 2, 0, 255, 0, call_write },
-    { "sin", 1, 0, 255, 0, call_sin },
-    { "modem", 1, 0, 255, 0, call_modem },
-    { "state", 0, 0, 0, 0, call_state },
-    { "level", 1, 0, UINT32_MAX, 0, call_level },
-    { "forecast", 0, 0, 0, 0, call_forecast },
-    { "pins", 0, 0, 0, 0, call_pins },
-    { "run", 1, 0, UINT32_MAX, 0, call_run },
-    { "load", UART_STATE_PLACES, 0, UINT32_MAX, 0, call_load },
-    { "fresh", 0, 0, 0, 0, call_fresh },
-    { "reset", 0, 0, 0, 0, call_reset },
-    { "replay", 1, 0, 65535, MOST_WORDS, call_replay },
-    { "part", 0, 0, 0, 0, call_part },
-    { "divisor", 2, 0, UINT32_MAX, 0, call_divisor },
+    { "tick", 0, 0, { 0 }, 0, call_tick },
+    { "ticks", 1, 1, { UINT32_MAX }, 0, call_ticks },
+    { "read", 1, 0, { 255 }, 0, call_read },
+    { "write", 2, 0, { 255, 255 }, 0, call_write },
+    { "sin", 1, 0, { 255 }, 0, call_sin },
+    { "modem", 1, 0, { 255 }, 0, call_modem },
+    { "state", 0, 0, { 0 }, 0, call_state },
+    { "level", 1, 0, { UINT32_MAX }, 0, call_level },
+    { "forecast", 0, 0, { 0 }, 0, call_forecast },
+    { "pins", 0, 0, { 0 }, 0, call_pins },
+    { "run", 1, 0, { UINT32_MAX }, 0, call_run },
+    { "load", UART_STATE_PLACES, 0, { UINT32_MAX, UINT32_MAX }, 0, call_load },
+    { "fresh", 0, 0, { 0 }, 0, call_fresh },
+    { "reset", 0, 0, { 0 }, 0, call_reset },
+    { "replay", 1, 0, { 65535 }, MOST_WORDS, call_replay },
+    { "part", 0, 0, { 0 }, 0, call_part },
+    { "divisor", 2, 0, { UINT32_MAX, UINT32_MAX }, 0, call_divisor },
+    { "expect", 2, 0, { 65535, MOST_WORDS }, MOST_WORDS, call_expect },
 };
 
 /* ---- Lines ---- */
@@ -308,7 +330,7 @@ static bool take_numbers(const char *at, const char *end, const struct form *for
 {
     given_count = 0;
     while (given_count < form->numbers) {
-        at = take_given(at, end, form->least, form->most);
+        at = take_given(at, end, form->least, form->most[given_count > 0]);
         if (at == NULL)
             return false;
     }
@@ -372,15 +394,19 @@ int main(int argc, char **argv)
 {
     ssize_t n;
 
-    arguments_take(argc, argv, false, help);
+    arguments_take(PROGRAM, argc, argv, false, help);
     uart_fresh(&current);
     while ((n = stream_read(STDIN_FILENO, in + in_used, sizeof in - in_used)) > 0) {
         in_used += (size_t)n;
         answer_whole_lines();
         flush_output();
     }
+    if (n < 0) {
+        stream_trouble(PROGRAM, STANDARD_INPUT);
+        return EXIT_TROUBLE;
+    }
     if (in_used > 0 || in_overlong)
         end_line(in, in_used);
     flush_output();
-    return n < 0 ? EXIT_TROUBLE : EXIT_SUCCESS;
+    return EXIT_SUCCESS;
 }

@@ -3,14 +3,14 @@
 
 usage: captures.py CALLS write FOLDER
        captures.py CALLS check REPLAY
+       captures.py CALLS guess FILE
 
 CALLS is the second program's `calls`, which answers the reads. `write` makes the files 000, 001, ..
-and index.txt, a line `NNN name` for each. `check` holds the program REPLAY to the answers, and to its
-status where reading or writing fails.
+and index.txt, a line `NNN name` for each. `check` holds the program REPLAY to the answers. `guess`
+makes one long capture whose reads are guesses, for the program `expect`.
 """
 
 import os
-import subprocess
 import sys
 
 import ask
@@ -528,19 +528,38 @@ def write(calls, folder):
         out.writelines(index)
 
 
+# ---- Guesses ----
+
+GUESSED_RECORDS = 9000
+
+
+def all_sequences(q):
+    """One after the other, a reset before each."""
+    for _, sequence in SEQUENCES:
+        q.reset()
+        sequence(q)
+
+
+def guessed(calls):
+    """A capture of more than a block, most of its reads wrong, in which a bad record is reached; what
+    stands behind it is not."""
+    q = Recorder(calls)
+    all_sequences(q)
+    polling(q, GUESSED_RECORDS)
+    words = q.taken()
+    q.close()
+    pick = st.picker(16754)
+    for place in filter(lambda i: is_read(words[i]) and pick(8), range(len(words))):
+        words[place] ^= pick(256)
+    return utr.capture(words + [BAD_KIND] + words[:5])
+
+
+def guess(calls, name):
+    with open(name, "wb") as out:
+        out.write(guessed(calls))
+
+
 # ---- Checking a program ----
-
-def fails_with_2(program):
-    """A folder cannot be read, a full device not written: status 2 and a message, no answer."""
-    folder = os.open(".", os.O_RDONLY)
-    unread = subprocess.run([program], stdin=folder, capture_output=True, check=False)
-    os.close(folder)
-    with open("/dev/full", "wb") as full:
-        unwritten = subprocess.run([program], input=b"", stdout=full, stderr=subprocess.PIPE,
-                                   check=False)
-    return (unread.returncode == unwritten.returncode == 2 and not unread.stdout
-            and unread.stderr and unwritten.stderr)
-
 
 def check(calls, program):
     count = wrong = 0
@@ -550,21 +569,17 @@ def check(calls, program):
         if got != (answer.encode() + b"\n", 0):
             print("%s answered %r, should be %r" % (name, got, answer))
             wrong += 1
-    if not fails_with_2(program):
-        print("reading or writing fails without status 2 and a message")
-        wrong += 1
-    print("captures: %d cases, %d wrong" % (count + 1, wrong))
-    return wrong == 0
+    print("captures: %d cases, %d wrong" % (count, wrong))
+    if wrong:
+        sys.exit(1)
 
 
 def main():
-    if len(sys.argv) != 4 or sys.argv[2] not in ("write", "check"):
+    tasks = {"write": write, "check": check, "guess": guess}
+    if len(sys.argv) != 4 or sys.argv[2] not in tasks:
         sys.exit(__doc__.strip())
     _, calls, task, target = sys.argv
-    if task == "write":
-        write(calls, target)
-    elif not check(calls, target):
-        sys.exit(1)
+    tasks[task](calls, target)
 
 
 if __name__ == "__main__":

@@ -1,20 +1,23 @@
 #!/usr/bin/env python3
 """Feeds the same random scripts, pairs and captures to two programs each and compares their answers.
 
-usage: compare.py CALLS_A CALLS_B [--calls N] [--pairs N] [--replays REPLAY_A REPLAY_B [--captures N]]
+usage: compare.py CALLS_A CALLS_B [--calls N] [--pairs N]
+                  [--replays REPLAY_A REPLAY_B [--expects EXPECT_A EXPECT_B] [--captures N]]
                   [--seed S] [--save FOLDER]
 
 Scripts and captures are drawn from the seed (draws.py). CALLS_B, the second program's, answers the
 reads of the captures. At the first difference of a script it prints the calls that lead there, from
 the last `fresh` or `load` on, and both answers. The pairs are clocks and rates (divisors.py), each a
 line `divisor`; at the first difference it prints the line and both answers. A capture goes to both
-programs from a file and through a pipe in odd pieces; one that is answered differently is saved and
-named. Ends with 1 at a difference, or where less than a third of the captures is answered `differs`;
-else it prints how much was compared and ends with 0.
+programs from a file and through a pipe in odd pieces, to EXPECT_A in pieces and to EXPECT_B from a
+file; one that is answered differently is saved and named, and so is one of which `expect` writes
+something that REPLAY_A does not agree with. Ends with 1 at a difference, or where less than a third of
+the captures is answered `differs`; else it prints how much was compared and ends with 0.
 """
 
 import argparse
 import os
+import shutil
 import sys
 import tempfile
 
@@ -119,40 +122,67 @@ def odd_pieces(data, pick):
     return ask.pieces(data, size_at)
 
 
-def all_answers(programs, name, data, seed):
-    """The answers of both programs, from a file and in the same pieces; each with its status."""
-    answers = []
-    for program in programs:
-        answers.append(ask.answer_from_file(program, name))
-        answers.append(ask.answer_in_pieces(program, odd_pieces(data, picker(seed))))
-    return answers
+def alike_answers(answers):
+    """Whether all answers are the same, with status 0; else they are shown, each with its way."""
+    first = next(iter(answers.values()))
+    if all(answer == first for answer in answers.values()) and first[2] == 0:
+        return True
+    for way, answer in answers.items():
+        print("%-10s %s" % (way, ask.brief(answer)))
+    return False
 
 
-def save_capture(name, data, answers):
-    with open(name, "wb") as out:
-        out.write(data)
-    print("capture saved as %s" % name)
-    for who, (answer, code) in zip(("A, file", "A, pieces", "B, file", "B, pieces"), answers):
-        print("%-10s %r, status %d" % (who, answer.decode("latin-1"), code))
+def replayed(programs, name, data, seed):
+    """The line of a capture that both programs answer alike, from a file and in the same pieces;
+    else None."""
+    answers = {}
+    for who, program in zip("AB", programs):
+        answers[who + ", file"] = ask.answer_from_file(program, name)
+        answers[who + ", pieces"] = ask.answer_in_pieces(program, odd_pieces(data, picker(seed)))
+    written, said, _ = answers["B, file"]
+    return written.decode() if alike_answers(answers) and not said else None
 
 
-def compare_captures(program_b, replays, pick, given):
+def expected(programs, replay, name, data, seed):
+    """Whether both programs expect the same of a capture, and the replay of it agrees."""
+    pieces = odd_pieces(data, picker(seed))
+    answers = {"A, pieces": ask.answer_in_pieces(programs[0], pieces),
+               "B, file": ask.answer_from_file(programs[1], name)}
+    written = answers["B, file"][0]
+    if not alike_answers(answers):
+        return False
+    again = ask.answer_apart([replay], input=written)
+    if written and again != (b"agreed\n", b"", 0):
+        print("what is expected is answered %r" % (again,))
+        return False
+    return True
+
+
+def compare_capture(given, name, data, seed):
+    """The line of a capture's replay where nothing differs, or None."""
+    line = replayed(given.replays, name, data, seed)
+    if given.expects and not expected(given.expects, given.replays[0], name, data, seed):
+        return None
+    return line
+
+
+def compare_captures(program_b, pick, given):
     recorder = Recorder(program_b)
     count = {}
     with tempfile.TemporaryDirectory() as folder:
         name = os.path.join(folder, "capture")
-        for number in range(given.captures):
-            draw = draws.draw_capture if number % 2 else draws.draw_difference
+        for number in range(1, given.captures + 1):
+            draw = draws.draw_difference if number % 2 else draws.draw_capture
             data = draw(pick, recorder)
             with open(name, "wb") as out:
                 out.write(data)
-            answers = all_answers(replays, name, data, pick(1 << 30))
-            if len(set(answers)) != 1 or answers[0][1]:
-                print("difference at capture %d" % (number + 1))
-                saved = "capture-%d-%d.utr" % (given.seed, number + 1)
-                save_capture(os.path.join(given.save, saved), data, answers)
+            line = compare_capture(given, name, data, pick(1 << 30))
+            if line is None:
+                saved = os.path.join(given.save, "capture-%d-%d.utr" % (given.seed, number))
+                shutil.copy(name, saved)
+                print("difference at capture %d\nsaved as %s" % (number, saved))
                 return False
-            outcome = answers[0][0].split()[0].decode()
+            outcome = line.split()[0]
             count[outcome] = count.get(outcome, 0) + 1
     recorder.close()
     print("%d captures compared, no difference (%s)"
@@ -168,6 +198,7 @@ def main():
     parser.add_argument("program_a")
     parser.add_argument("program_b")
     parser.add_argument("--replays", nargs=2)
+    parser.add_argument("--expects", nargs=2)
     parser.add_argument("--seed", type=int, default=1)
     parser.add_argument("--calls", type=int, default=1000000)
     parser.add_argument("--pairs", type=int, default=100000)
@@ -180,7 +211,7 @@ def main():
     same = (compare_scripts(programs, pick, given.calls) and
             compare_pairs(programs, pick, given.pairs))
     if same and given.replays:
-        same = compare_captures(given.program_b, given.replays, pick, given)
+        same = compare_captures(given.program_b, pick, given)
     sys.exit(0 if same else 1)
 
 

@@ -1,20 +1,22 @@
-"""Random scripts for `calls` and random captures for `replay`.
+"""Random scripts for `calls` and random captures for `replay` and `expect`.
 
 Scripts: random well-formed states near boundaries with steps after them, sequences as a driver would
 write them, characters on SIN with and without errors, errors kept in character mode, forecasts with
-levels and runs around them, replays, states damaged in one part or two, divisors for rates, lines
-of wrong form.
+levels and runs around them, replays, expected captures, states damaged in one part or two, divisors
+for rates, lines of wrong form.
 Captures: the same steps as records, most of them as they are, the others damaged.
 
-pick(n) gives a random number from 0 to n - 1. The bytes of reads in records come from a recorder.
+pick(n) gives a random number from 0 to n - 1. The bytes of reads in records come from a recorder;
+those of which the expected ones are asked are guesses.
 """
 
 import divisors
 import states as st
-from recorder import utr
+from recorder import Guesser, utr
 from steps import Lines
 
 BIG = 4294967295
+MOST_WORDS = 1024
 
 
 # ---- Single calls ----
@@ -133,6 +135,10 @@ BAD_LINES = (
     "divisor", "divisor ", "divisor 1", "divisor 1 ", "divisor 1 2 ", "divisor 1 2 3", "divisor  1 2",
     "divisor 01 2", "divisor 1 02", "divisor -1 2", "divisor 4294967296 1", "divisor 1 4294967296",
     "divisors 1 2",
+    "expect", "expect ", "expect 1", "expect 1 ", "expect 1 1025", "expect 65536 1", "expect 1 0 ",
+    "expect 01 0", "expect 1 00", "expect 1 0 00", "expect 1 -1", "expect  1 0", "expect 1  0",
+    "expect 1 0 4294967296", "expect 1 4294967296 0", "expect 1 0" + " 0" * 1025,
+    "expect 65535 1024" + " 4294967295" * 1025, "expected 1 0",
 )
 
 
@@ -461,30 +467,71 @@ def unknown_version(pick):
     return (0, 2, 3, 256, 257, 65535)[pick(6)]
 
 
+def random_start(pick):
+    return "fresh" if pick(3) == 0 else st.load_line(st.random_state(pick))
+
+
+def line_size(pick):
+    """Records of a line."""
+    return (1 + pick(5), pick(40), pick(300), MOST_WORDS - pick(2))[pick(4)]
+
+
+def words_line(name, *numbers):
+    return " ".join(map(str, (name, *numbers)))
+
+
 def replay_segment(recorder):
     """Replays from a state near boundaries or from fresh, most of them agreed."""
     def segment(pick, lines):
-        start = "fresh" if pick(3) == 0 else st.load_line(st.random_state(pick))
+        start = random_start(pick)
         recorder.start(start)
-        words = record_steps(pick, recorder, (1 + pick(5), pick(40), pick(300), 1024 - pick(2))[pick(4)])
+        words = record_steps(pick, recorder, line_size(pick))
         for _ in range(pick(3) if words else 0):
             damage_record(pick, words)
         version = utr.VERSION if pick(12) else unknown_version(pick)
-        lines.append(start)
-        lines.append(" ".join(map(str, ["replay", version, *words])))
-        lines.append("state")
+        lines += (start, words_line("replay", version, *words), "state")
     return segment
 
 
-def damaged_replay_segment(pick, lines):
-    """Replays of damaged states."""
+def room_for(pick, words):
+    """None, few, as many words as records, more; often as many as stand before a bad one."""
+    bad = [place for place, word in enumerate(words) if utr.parts(word) is None]
+    reached = bad[0] if bad else len(words)
+    return min(MOST_WORDS, (0, pick(len(words) + 1), len(words), len(words) + pick(20), reached,
+                            reached, reached + pick(2), max(0, reached - 1))[pick(8)])
+
+
+def expect_segment(pick, lines):
+    """Expected captures from a state near boundaries or from fresh, the records' reads guesses; then of
+    no records, with numbers at the ends of their ranges and beyond."""
+    words = record_steps(pick, Guesser(lambda: pick(256)), line_size(pick))
+    for _ in range(pick(3) if words else 0):
+        place = pick(len(words))
+        words[place] = bad_record(pick, words[place])
+    version = utr.VERSION if pick(12) else unknown_version(pick)
+    lines += (random_start(pick), words_line("expect", version, room_for(pick, words), *words),
+              words_line("expect", (1, 1, 0, 2, 65535, 65536)[pick(6)],
+                         (0, 0, 1, MOST_WORDS, MOST_WORDS + 1)[pick(5)]), "state")
+
+
+def longest_segment(pick, lines):
+    """The longest lines there are, or with a word more."""
+    words = [BIG] * (MOST_WORDS + pick(2))
+    lines += (random_start(pick), words_line("replay", 65535, *words),
+              words_line("expect", 65535, MOST_WORDS, *words))
+
+
+def damaged_captures_segment(pick, lines):
+    """Replays and expected captures of damaged states."""
     damaged_segment(pick, lines)
-    lines.append("replay %d" % pick(3))
-    lines.append("replay %d %d" % (pick(3), pick(BIG + 1)))
+    lines += ("replay %d" % pick(3), "replay %d %d" % (pick(3), pick(BIG + 1)),
+              "expect %d %d" % (pick(3), pick(3)),
+              "expect %d %d %d" % (pick(3), pick(3), pick(BIG + 1)))
 
 
 def draw_script(pick, size, recorder):
-    segments = SEGMENTS + (replay_segment(recorder),) * 4 + (damaged_replay_segment,)
+    segments = SEGMENTS + ((replay_segment(recorder),) * 4 + (expect_segment,) * 4 +
+                           (damaged_captures_segment, longest_segment))
     lines = []
     while len(lines) < size:
         segments[pick(len(segments))](pick, lines)

@@ -18,7 +18,10 @@ LARGEST = b"load" + b" 4294967295" * PLACES
 AGREED = b"agreed\n"
 READ_LSR = b" %d" % 0x10000560  # agrees on a fresh device
 MOST_WORDS = 1024
-LONGEST = b"replay 65535" + b" 4294967295" * MOST_WORDS
+REPLAY = b"replay 65535" + b" 4294967295" * MOST_WORDS
+LONGEST = b"expect 65535 1024" + b" 4294967295" * MOST_WORDS
+UNWRITTEN = b" 2863311530"
+DCD = b" %d" % 0x40000008  # modem pins: a record of ten digits
 
 CASES = [
     (b"", b""), (b"\n", BAD), (b"\n\n", BAD * 2), (b"tick", TICK), (b"tick\n", TICK),
@@ -53,8 +56,8 @@ CASES += [
     (b"replay 1" + READ_LSR * MOST_WORDS + b"\n", AGREED),
     (b"replay 1" + READ_LSR * (MOST_WORDS + 1) + b"\n", BAD),
     (b"replay 2" + b" 0" * (MOST_WORDS + 1) + b"\n", BAD), (b"replay 1" + b" 0" * 5000 + b"\n", BAD),
-    (LONGEST + b"\n", b"refused 7 0\n"), (LONGEST, b"refused 7 0\n"), (LONGEST + b" \n", BAD),
-    (LONGEST + b"1\n", BAD), (LONGEST[:-1] + b"6\n", BAD),
+    (REPLAY + b"\n", b"refused 7 0\n"), (REPLAY, b"refused 7 0\n"), (REPLAY + b" \n", BAD),
+    (REPLAY + b"1\n", BAD), (REPLAY[:-1] + b"6\n", BAD),
     (b"replay 1" + b" 4294967295" * MOST_WORDS + b"\ntick\n", b"refused 8 0\n" + TICK),
 ]
 CASES += [
@@ -72,14 +75,35 @@ CASES += [
     (b"divisor 4294967296 1\n", BAD), (b"divisor 1 4294967296\n", BAD), (b"divisor 1 2\r\n", BAD),
     (b"divisor 1\t2\n", BAD), (b"divisors 1 2\n", BAD), (b"Divisor 1 2\n", BAD), (b"divisor1 2\n", BAD),
 ]
-for length in (3831, 3832, 3833, 3834, 11275, 11276, 11277, 65535, 65536, 65537, 131072):
+CASES += [
+    (b"expect 1 0\n", b"0 0\n"), (b"expect 1 0", b"0 0\n"), (b"expect 1 2\n", b"0 0" + UNWRITTEN * 2 + b"\n"),
+    (b"expect 1 2 %d\n" % 0x10000561, b"0 1" + READ_LSR + UNWRITTEN + b"\n"),
+    (b"expect 1 1" + READ_LSR * 2 + b"\n", b"16 1" + READ_LSR + b"\n"), (b"expect 1 0 0\n", b"16 0\n"),
+    (b"expect 1 1 65536\nexpect 1 0 65536\n", b"8 0" + UNWRITTEN + b"\n8 0\n"),
+    (b"expect 0 0\nexpect 2 0\nexpect 257 0 0\nexpect 65535 0\n", b"7 0\n" * 4),
+    (LARGEST + b"\nexpect 0 1 0\nexpect 1 0\npart\n", b"0\n1 0" + UNWRITTEN + b"\n1 0\n1 1\n"),
+    (b"expect\n", BAD), (b"expect \n", BAD), (b"expect 1\n", BAD), (b"expect 1 \n", BAD), (b"expect 1 0 \n", BAD),
+    (b"expect  1 0\n", BAD), (b"expect 1  0\n", BAD), (b"expect 1 0  0\n", BAD), (b" expect 1 0\n", BAD),
+    (b"expect 65536 0\n", BAD), (b"expect 1 1025\n", BAD), (b"expect 1 65535\n", BAD), (b"expect 1 4294967296\n", BAD),
+    (b"expect 1 0 4294967296\n", BAD), (b"expect 01 0\n", BAD), (b"expect 1 00\n", BAD), (b"expect 1 0 00\n", BAD),
+    (b"expect -1 0\n", BAD), (b"expect 1 -1\n", BAD), (b"expect +1 0\n", BAD), (b"expect 1 0 -1\n", BAD),
+    (b"expect x 0\n", BAD), (b"expect 1 x\n", BAD), (b"expect 1 0\r\n", BAD), (b"expect 1\t0\n", BAD),
+    (b"expect 1 0\t0\n", BAD), (b"expected 1 0\n", BAD), (b"Expect 1 0\n", BAD), (b"expect1 0\n", BAD),
+    (b"expect 1 1024" + DCD * MOST_WORDS + b"\ntick\n", b"0 1024" + DCD * MOST_WORDS + b"\n" + TICK),
+    (b"expect 1 1023" + DCD * MOST_WORDS + b"\n", b"16 1023" + DCD * (MOST_WORDS - 1) + b"\n"),
+    ((b"expect 1 1024" + DCD * MOST_WORDS + b"\n") * 12, (b"0 1024" + DCD * MOST_WORDS + b"\n") * 12),
+    (b"expect 1 1024" + b" 0" * (MOST_WORDS + 1) + b"\n", BAD), (b"expect 1 1024" + b" 0" * 5000 + b"\n", BAD),
+    (LONGEST + b"\n", b"7 0" + UNWRITTEN * MOST_WORDS + b"\n"), (LONGEST, b"7 0" + UNWRITTEN * MOST_WORDS + b"\n"),
+    (LONGEST + b" \n", BAD), (LONGEST + b"1\n", BAD), (LONGEST[:-1] + b"6\n", BAD),
+]
+for length in (3831, 3832, 3833, 3834, 11275, 11276, 11277, 11280, 11281, 11282, 65535, 65536, 65537, 131072):
     CASES += [(b"y" * length, BAD), (b"y" * length + b"\n", BAD),
               (b"y" * length + b"\ntick", BAD + TICK)]
 
 
 TEXT_LINES = 300
-TEXT = (b"tick", b"read 5", b"", LARGEST, b"fresh", b"state", b"level 3", b"z" * 7000, LONGEST,
-        b"replay 1" + READ_LSR * MOST_WORDS)
+TEXT = (b"tick", b"read 5", b"", LARGEST, b"fresh", b"state", b"level 3", b"z" * 7000, LONGEST, REPLAY,
+        b"replay 1" + READ_LSR * MOST_WORDS, b"expect 1 1024" + DCD * MOST_WORDS)
 
 
 def trouble_in_pieces(program):

@@ -6,7 +6,8 @@ usage: mutants.py [--calls N] [--pairs N] [--captures N] [--seed S] [--only TEXT
 Each mutant is a change of text in one C file. It is built in a folder of its own
 beside the unchanged programs; compare.py has to find a difference within the
 given calls, pairs and captures. With --stored the stored script of `calls` has to
-find it instead. Prints for each mutant where it was found.
+find it instead, or a stored capture: replayed, or expected as the unchanged program
+or what is stored says. Prints for each mutant where it was found.
 """
 
 import argparse
@@ -20,10 +21,11 @@ import ask
 from compare import first_difference
 
 HERE = os.path.dirname(os.path.abspath(__file__))
-PROGRAMS = ("calls", "replay")
-MODEL = ("model.c", "capture.c", "divisor.c", "stream.c", "arguments.c")
-HEADERS = ("model.h", "capture.h", "divisor.h", "stream.h", "arguments.h")
-STORED = os.path.join(HERE, "..", "..", "crates", "calls")
+PROGRAMS = ("calls", "replay", "expect")
+MODEL = ("model.c", "capture.c", "expected.c", "divisor.c", "source.c", "stream.c", "arguments.c")
+HEADERS = ("model.h", "record.h", "capture.h", "expected.h", "divisor.h", "source.h", "stream.h",
+           "arguments.h")
+CRATES = os.path.join(HERE, "..", "..", "crates")
 
 # Where uart_part looks at each part.
 PART_1 = "    if (!registers_in_range(u) || !clock_in_range(u))\n        return UART_PART_REGISTERS;\n"
@@ -58,6 +60,39 @@ OUTSIDE = ("    if (clock < 1u || clock > MOST_CLOCK || rate < 1u || rate > MOST
            "        return answer;\n")
 ERROR = "(clock - product) * MILLION / product"
 PICKED = "    put_divisor(divisor_pick(given[0], given[1]));\n"
+DIVISOR_FORM = '{ "divisor", 2, 0, { UINT32_MAX, UINT32_MAX }, 0,'
+
+# Where a replay stops at a differing read.
+DIFFERS = ("        if (record != expected)\n"
+           "            return differs(i, byte_of(record), byte_of(expected));\n")
+
+# The writer of the expected capture: its loop, its two refusals, what it does with a record, its end; then
+# the refusals before the first record, and the call.
+LOOP = "    while (answer.count < count) {\n"
+BAD_WORD = ("        if (!record_is_good(record)) {\n            answer.number = CAPTURE_BAD_RECORD;\n"
+            "            break;\n        }\n")
+NO_WORD = ("        if (answer.count == room) {\n            answer.number = EXPECTED_NO_WORD;\n"
+           "            break;\n        }\n")
+WRITES = ("        record = record_expected(u, record);\n        words[answer.count++] = record;\n"
+          "        record_step(u, record);\n")
+WRITTEN = "    return answer;\n}\n\nstruct expected_answer expected("
+RECORDS = "    return expected_records(u, records, count, words, room);\n"
+EXPECTED_1 = "    if (malformed.part != UART_PART_NONE)\n        return malformed;\n"
+EXPECTED_7 = "    if (version != CAPTURE_VERSION)\n        return unknown;\n"
+EXPECTS = "    a = expected(&current, given[0], given + 2, given_count - 2, words, given[1]);\n"
+
+# The program `expect`: a block, its header, its number.
+BLOCK = "        if (!write_words(source, words, answer.count))\n"
+LEFT = "        if (answer.number == UART_DONE && block.left != 0u)\n"
+HEADER = ("    if (number == UART_DONE && !(write_bytes(source, header, sizeof header) &&\n"
+          "                                 expect_blocks(source, &number)))\n")
+TOLD = '        fprintf(stderr, "%" PRIu32 "\\n", number);\n'
+
+
+def first_state(number):
+    """The writer that gives back the state it was given beside this number."""
+    return (RECORDS.replace("    return", "    struct uart first = *u;\n    struct expected_answer answer =") +
+            "\n    if (answer.number == %s)\n        *u = first;\n    return answer;\n" % number)
 
 
 # Name, file, text, text in its place. The text stands exactly once in the file.
@@ -800,58 +835,54 @@ MUTANTS = [
     ("divisor: rate before clock", "calls.c", PICKED, PICKED.replace("given[0], given[1]", "given[1], given[0]")),
 
     # Lines.
-    ("divisor with a third number taken", "calls.c", '{ "divisor", 2, 0, UINT32_MAX, 0,',
-     '{ "divisor", 2, 0, UINT32_MAX, 1,'),
-    ("divisor with one number taken", "calls.c", '{ "divisor", 2, 0, UINT32_MAX, 0,',
-     '{ "divisor", 1, 0, UINT32_MAX, 1,'),
-    ("divisor with 0 bad", "calls.c", '{ "divisor", 2, 0, UINT32_MAX, 0,',
-     '{ "divisor", 2, 1, UINT32_MAX, 0,'),
-    ("divisor with a clock above its range bad", "calls.c", '{ "divisor", 2, 0, UINT32_MAX, 0,',
-     '{ "divisor", 2, 0, 16000000, 0,'),
+    ("divisor with a third number taken", "calls.c", DIVISOR_FORM,
+     '{ "divisor", 2, 0, { UINT32_MAX, UINT32_MAX }, 1,'),
+    ("divisor with one number taken", "calls.c", DIVISOR_FORM,
+     '{ "divisor", 1, 0, { UINT32_MAX }, 1,'),
+    ("divisor with 0 bad", "calls.c", DIVISOR_FORM,
+     '{ "divisor", 2, 1, { UINT32_MAX, UINT32_MAX }, 0,'),
+    ("divisor with a clock above its range bad", "calls.c", DIVISOR_FORM,
+     '{ "divisor", 2, 0, { 16000000, UINT32_MAX }, 0,'),
     ("a state without the kept errors taken", "calls.c", '{ "load", UART_STATE_PLACES, 0,',
      '{ "load", UART_STATE_PLACES - 3u, 0,'),
     ("leading zeros taken", "calls.c", "(*first == '0' && at - first > 1) || ", ""),
     ("numbers above 32 bits taken", "calls.c", " || sum > UINT32_MAX)", ")"),
-    ("ticks 0 taken", "calls.c", '{ "ticks", 1, 1, UINT32_MAX,', '{ "ticks", 1, 0, UINT32_MAX,'),
-    ("addresses above 255 taken", "calls.c", '{ "read", 1, 0, 255,', '{ "read", 1, 0, 999,'),
+    ("ticks 0 taken", "calls.c", '{ "ticks", 1, 1,', '{ "ticks", 1, 0,'),
+    ("addresses above 255 taken", "calls.c", '{ "read", 1, 0, { 255 },', '{ "read", 1, 0, { 999 },'),
     ("text after the numbers taken", "calls.c", "    return at == end;\n", "    return true;\n"),
     ("words by their beginning", "calls.c", "if (strlen(forms[i].word) == length && ",
      "if (strlen(forms[i].word) <= length && "),
     ("1,023 words", "calls.c", "#define MOST_WORDS 1024u", "#define MOST_WORDS 1023u"),
     ("1,025 words", "calls.c", "#define MOST_WORDS 1024u", "#define MOST_WORDS 1025u"),
-    ("part with a number taken", "calls.c", '{ "part", 0, 0, 0, 0,', '{ "part", 0, 0, 0, 1,'),
-    ("version above 65535 taken", "calls.c", '{ "replay", 1, 0, 65535,', '{ "replay", 1, 0, 65536,'),
+    ("part with a number taken", "calls.c", '{ "part", 0, 0, { 0 }, 0,', '{ "part", 0, 0, { 0 }, 1,'),
+    ("version above 65535 taken", "calls.c", '{ "replay", 1, 0, { 65535 },', '{ "replay", 1, 0, { 65536 },'),
 
     # Replay.
-    ("the differing read is done", "capture.c",
-     "            if (byte != byte_of(record))\n"
-     "                return differs(i, byte_of(record), byte);\n"
-     "            uart_end_read(u, address_of(record), byte);",
-     "            uart_end_read(u, address_of(record), byte);\n"
-     "            if (byte != byte_of(record))\n"
-     "                return differs(i, byte_of(record), byte);"),
-    ("seen and model swapped", "capture.c", "return differs(i, byte_of(record), byte);",
-     "return differs(i, byte, byte_of(record));"),
-    ("places from 1", "capture.c", "return differs(i, byte_of(record), byte);",
-     "return differs(i + 1u, byte_of(record), byte);"),
-    ("stray bits taken", "capture.c", "(record & ~(KIND_MASK | fields[kind_of(record)])) == 0u;",
+    ("the differing read is done", "capture.c", DIFFERS,
+     "        if (record != expected) {\n            record_step(u, expected);\n"
+     "            return differs(i, byte_of(record), byte_of(expected));\n        }\n"),
+    ("seen and model swapped", "capture.c", "differs(i, byte_of(record), byte_of(expected));",
+     "differs(i, byte_of(expected), byte_of(record));"),
+    ("places from 1", "capture.c", "differs(i, byte_of(record), byte_of(expected));",
+     "differs(i + 1u, byte_of(record), byte_of(expected));"),
+    ("stray bits taken", "record.h", "(record & ~(KIND_MASK | fields[kind_of(record)])) == 0u;",
      "true;"),
-    ("stray bit 16 of ticks", "capture.c", "[KIND_TICKS] = 0xFFFFu", "[KIND_TICKS] = 0x1FFFFu"),
-    ("stray bit 11 of a read", "capture.c", "[KIND_READ] = 0x7FFu", "[KIND_READ] = 0xFFFu"),
-    ("stray bit 11 of a write", "capture.c", "[KIND_WRITE] = 0x7FFu", "[KIND_WRITE] = 0xFFFu"),
-    ("stray bit 1 of SIN", "capture.c", "[KIND_SIN] = 0x1u", "[KIND_SIN] = 0x3u"),
-    ("stray bit 4 of modem pins", "capture.c", "[KIND_MODEM] = 0xFu", "[KIND_MODEM] = 0x1Fu"),
-    ("stray bit 27 of a reset", "capture.c", "[KIND_RESET] = 0x0u", "[KIND_RESET] = 0x8000000u"),
-    ("kind 6 taken", "capture.c",
+    ("stray bit 16 of ticks", "record.h", "[KIND_TICKS] = 0xFFFFu", "[KIND_TICKS] = 0x1FFFFu"),
+    ("stray bit 11 of a read", "record.h", "[KIND_READ] = 0x7FFu", "[KIND_READ] = 0xFFFu"),
+    ("stray bit 11 of a write", "record.h", "[KIND_WRITE] = 0x7FFu", "[KIND_WRITE] = 0xFFFu"),
+    ("stray bit 1 of SIN", "record.h", "[KIND_SIN] = 0x1u", "[KIND_SIN] = 0x3u"),
+    ("stray bit 4 of modem pins", "record.h", "[KIND_MODEM] = 0xFu", "[KIND_MODEM] = 0x1Fu"),
+    ("stray bit 27 of a reset", "record.h", "[KIND_RESET] = 0x0u", "[KIND_RESET] = 0x8000000u"),
+    ("kind 6 taken", "record.h",
      "    return kind_of(record) <= KIND_RESET &&",
      "    if (kind_of(record) == 6u)\n        return true;\n    return kind_of(record) <= KIND_RESET &&"),
     ("records judged before the first step", "capture.c",
-     "    for (size_t i = 0; i < count; i++) {\n        uint32_t record = records[i];\n",
+     "    for (size_t i = 0; i < count; i++) {\n",
      "    for (size_t i = 0; i < count; i++)\n        if (!record_is_good(records[i]))\n"
      "            return replay_refused(CAPTURE_BAD_RECORD, i);\n"
-     "    for (size_t i = 0; i < count; i++) {\n        uint32_t record = records[i];\n"),
-    ("a tick more in each record", "capture.c", "uart_do_ticks(u, field);", "uart_do_ticks(u, field + 1u);"),
-    ("no ticks as one", "capture.c", "uart_do_ticks(u, field);", "uart_do_ticks(u, field + !field);"),
+     "    for (size_t i = 0; i < count; i++) {\n"),
+    ("a tick more in each record", "record.h", "uart_do_ticks(u, field);", "uart_do_ticks(u, field + 1u);"),
+    ("no ticks as one", "record.h", "uart_do_ticks(u, field);", "uart_do_ticks(u, field + !field);"),
     ("7 before 1", "capture.c",
      "    if (!uart_well_formed(u))\n        return malformed(uart_part(u));\n"
      "    if (version != CAPTURE_VERSION)\n        return replay_refused(CAPTURE_BAD_VERSION, 0u);\n",
@@ -861,30 +892,177 @@ MUTANTS = [
      "    if ((version & 255u) != CAPTURE_VERSION)"),
 
     # The program replay.
-    ("6 before 8 in a short file", "replay.c", "    if (bytes < HEADER_BYTES)\n",
+    ("6 before 8 in a short file", "source.c", "    if (bytes < SOURCE_HEADER_BYTES)\n",
      "    if (bytes > 0 && header[0] != 'U')\n        return CAPTURE_BAD_MARK;\n"
-     "    if (bytes < HEADER_BYTES)\n"),
-    ("fourth byte not looked at", "replay.c", " || header[3] != 0u ||", " ||"),
-    ("pad not looked at", "replay.c", "header[3] != 0u ||\n        header[6] != 0u || header[7] != 0u)",
+     "    if (bytes < SOURCE_HEADER_BYTES)\n"),
+    ("fourth byte not looked at", "source.c", " || header[3] != 0u ||", " ||"),
+    ("pad not looked at", "source.c", "header[3] != 0u ||\n        header[6] != 0u || header[7] != 0u)",
      "header[3] != 0u)"),
-    ("version's high byte not looked at", "replay.c", "(header[4] | header[5] << 8) != CAPTURE_VERSION",
+    ("version's high byte not looked at", "source.c", "(header[4] | header[5] << 8) != CAPTURE_VERSION",
      "header[4] != CAPTURE_VERSION"),
-    ("bytes left over ignored", "replay.c", " && used % RECORD_BYTES != 0u)", " && used % RECORD_BYTES > 3u)"),
+    ("bytes left over ignored", "replay.c", " && block.left != 0u)", " && block.left > 3u)"),
     ("bytes left over before a difference", "replay.c",
-     "answer.outcome == REPLAY_AGREED && used % RECORD_BYTES", "used % RECORD_BYTES"),
+     "answer.outcome == REPLAY_AGREED && block.left", "block.left"),
     ("places from each block's start", "replay.c", "        answer.place += before;\n", ""),
-    ("each block from the fresh state", "replay.c", "        used = fill(source, bytes, sizeof bytes);\n",
-     "        uart_fresh(&u);\n        used = fill(source, bytes, sizeof bytes);\n"),
-    ("a short read ends the input", "replay.c", "while (used < size && (n", "while (used < size && used < 8u && (n"),
-    ("one block only", "replay.c", "answer.outcome == REPLAY_AGREED && used == sizeof bytes);", "false);"),
-    ("words with the high byte first", "replay.c",
+    ("each block from the fresh state", "replay.c", "        source_next(source, &block);\n",
+     "        uart_fresh(&u);\n        source_next(source, &block);\n"),
+    ("a short read ends the input", "source.c", "while (used < size && (n", "while (used < size && used < 8u && (n"),
+    ("one block only", "replay.c", "answer.outcome == REPLAY_AGREED && !block.last);", "false);"),
+    ("words with the high byte first", "source.c",
      "(uint32_t)b[0] | (uint32_t)b[1] << 8 | (uint32_t)b[2] << 16 | (uint32_t)b[3] << 24;",
      "(uint32_t)b[3] | (uint32_t)b[2] << 8 | (uint32_t)b[1] << 16 | (uint32_t)b[0] << 24;"),
+
+    # The expected capture.
+    ("expect: the byte seen written", "expected.c", WRITES,
+     WRITES.replace("answer.count++] = record", "answer.count] = records[answer.count]").replace(
+         "        record_step", "        answer.count++;\n        record_step")),
+    ("expect: the byte seen decides what the read changes", "expected.c", "record_step(u, record);",
+     "record_step(u, records[answer.count - 1u]);"),
+    ("expect: the byte after the read", "expected.c", WRITES,
+     "        record_step(u, record_expected(u, record));\n"
+     "        words[answer.count++] = record_expected(u, record);\n"),
+    ("expect: reads not done", "expected.c", "        record_step(u, record);\n",
+     "        if (kind_of(record) != KIND_READ)\n            record_step(u, record);\n"),
+    ("expect: ticks not run", "expected.c", "        record_step(u, record);\n",
+     "        if (kind_of(record) != KIND_TICKS)\n            record_step(u, record);\n"),
+    ("expect: pins not moved", "expected.c", "        record_step(u, record);\n",
+     "        if (kind_of(record) != KIND_MODEM)\n            record_step(u, record);\n"),
+    ("expect: no reset", "expected.c", "        record_step(u, record);\n",
+     "        if (kind_of(record) != KIND_RESET)\n            record_step(u, record);\n"),
+    ("expect: no address in a read", "expected.c", "words[answer.count++] = record;",
+     "words[answer.count++] = kind_of(record) == KIND_READ ? record & ~0x700u : record;"),
+    ("expect: a write with the byte read back", "expected.c", "words[answer.count++] = record;",
+     "words[answer.count++] = kind_of(record) != KIND_WRITE ? record\n"
+     "            : (record & ~BYTE_MASK) | uart_peek(u, address_of(record));"),
+    ("expect: no ticks left out", "expected.c", WRITES,
+     "        if (record == 0u) {\n            records++;\n            count--;\n            continue;\n"
+     "        }\n" + WRITES),
+    ("expect: ends at a wrong guess", "expected.c", WRITES,
+     "        if (record != record_expected(u, record))\n            break;\n" + WRITES),
+    ("expect: a wrong guess ends the writing after it", "expected.c", WRITES,
+     WRITES + "        if (record != records[answer.count - 1u])\n            break;\n"),
+    ("expect: 16 before 8", "expected.c", BAD_WORD + NO_WORD, NO_WORD + BAD_WORD),
+    ("expect: a bad record written as it stands", "expected.c", BAD_WORD,
+     "        if (!record_is_good(record) && answer.count < room) {\n"
+     "            words[answer.count++] = record;\n            continue;\n        }\n" + BAD_WORD),
+    ("expect: a bad record written and refused", "expected.c", BAD_WORD,
+     BAD_WORD.replace("            break", "            if (answer.count < room)\n"
+                      "                words[answer.count++] = record;\n            break")),
+    ("expect: a bad record's word touched", "expected.c", BAD_WORD,
+     BAD_WORD.replace("            break", "            if (answer.count < room)\n"
+                      "                words[answer.count] = record;\n            break")),
+    ("expect: a bad record's step made", "expected.c", BAD_WORD,
+     BAD_WORD.replace("            break", "            record_step(u, record);\n            break")),
+    ("expect: a step for the record with no word", "expected.c", NO_WORD,
+     NO_WORD.replace("            break", "            record_step(u, record_expected(u, record));\n"
+                     "            break")),
+    ("expect: a bad record counted", "expected.c", BAD_WORD,
+     BAD_WORD.replace("            break", "            answer.count++;\n            break")),
+    ("expect: the record with no word counted", "expected.c", NO_WORD,
+     NO_WORD.replace("            break", "            answer.count++;\n            break")),
+    ("expect: count 0 at 8", "expected.c", WRITTEN,
+     "    if (answer.number == CAPTURE_BAD_RECORD)\n        answer.count = 0;\n" + WRITTEN),
+    ("expect: count 0 at 16", "expected.c", WRITTEN,
+     "    if (answer.number == EXPECTED_NO_WORD)\n        answer.count = 0;\n" + WRITTEN),
+    ("expect: 0 for 16", "expected.c", LOOP,
+     "    if (room < count)\n        count = room;\n    while (answer.count < count) {\n"),
+    ("expect: no word for the last of the room", "expected.c", "answer.count == room)",
+     "answer.count + 1u >= room)"),
+    ("expect: a word behind the room", "expected.c", "answer.count == room)", "answer.count == room + 1u)"),
+    ("expect: 16 for no room without records", "expected.c", LOOP,
+     "    if (room == 0u && count == 0u)\n        answer.number = EXPECTED_NO_WORD;\n" + LOOP),
+    ("expect: 16 for a run as long as the records", "expected.c", WRITTEN,
+     "    if (answer.number == UART_DONE && room > 0u && answer.count == room)\n"
+     "        answer.number = EXPECTED_NO_WORD;\n" + WRITTEN),
+    ("expect: nothing written where the room is too small", "expected.c", LOOP,
+     "    if (room < count) {\n        answer.number = EXPECTED_NO_WORD;\n        return answer;\n    }\n" + LOOP),
+    ("expect: records judged before the first is written", "expected.c", LOOP,
+     "    for (size_t i = 0; i < count; i++)\n        if (!record_is_good(records[i])) {\n"
+     "            answer.number = CAPTURE_BAD_RECORD;\n            return answer;\n        }\n" + LOOP),
+    ("expect: the word beyond the count touched", "expected.c", WRITTEN,
+     "    if (answer.count < room)\n        words[answer.count] = 0u;\n" + WRITTEN),
+    ("expect: words beyond the count zero", "expected.c", WRITTEN,
+     "    for (size_t i = answer.count; i < room; i++)\n        words[i] = 0u;\n" + WRITTEN),
+    ("expect: the last word of the room touched", "expected.c", WRITTEN,
+     "    if (answer.count < room)\n        words[room - 1u] = 0u;\n" + WRITTEN),
+    ("expect: state as given at 8", "expected.c", RECORDS, first_state("CAPTURE_BAD_RECORD")),
+    ("expect: state as given at 16", "expected.c", RECORDS, first_state("EXPECTED_NO_WORD")),
+    ("expect: state as given where all is written", "expected.c", RECORDS, first_state("UART_DONE")),
+    ("expect: 15 for 16", "expected.h", "#define EXPECTED_NO_WORD 16u", "#define EXPECTED_NO_WORD 15u"),
+    ("expect: 7 before 1", "expected.c", EXPECTED_1 + EXPECTED_7, EXPECTED_7 + EXPECTED_1),
+    ("expect: a malformed state taken", "expected.c", EXPECTED_1, ""),
+    ("expect: words touched beside 1", "expected.c", EXPECTED_1,
+     EXPECTED_1.replace("PART_NONE)\n", "PART_NONE && room > 0u)\n        words[0] = 0u;\n"
+                        "    if (malformed.part != UART_PART_NONE)\n")),
+    ("expect: any version taken", "expected.c", EXPECTED_7, ""),
+    ("expect: version 0 taken", "expected.c", "version != CAPTURE_VERSION", "version > CAPTURE_VERSION"),
+    ("expect: version 2 taken", "expected.c", "version != CAPTURE_VERSION",
+     "version != CAPTURE_VERSION && version != 2u"),
+    ("expect: version 3 taken", "expected.c", "version != CAPTURE_VERSION",
+     "version != CAPTURE_VERSION && version != 3u"),
+    ("expect: versions by their low byte", "expected.c", "version != CAPTURE_VERSION",
+     "(version & 255u) != CAPTURE_VERSION"),
+    ("expect: records written beside 7", "expected.c", EXPECTED_7,
+     EXPECTED_7.replace("        return", "        expected_records(u, records, count, words, room);\n"
+                        "    if (version != CAPTURE_VERSION)\n        return")),
+    ("expect: records counted beside 7", "expected.c", "{ CAPTURE_BAD_VERSION, UART_PART_NONE, 0 }",
+     "{ CAPTURE_BAD_VERSION, UART_PART_NONE, count }"),
+    ("expect: the state stays", "calls.c", EXPECTS,
+     "    struct uart copy = current;\n\n" + EXPECTS.replace("&current", "&copy")),
+    ("expect: words that were 0", "calls.c", "#define UNWRITTEN 2863311530u", "#define UNWRITTEN 0u"),
+    ("expect: the words written only", "calls.c", "put_numbers(numbers, 2u + given[1]);",
+     "put_numbers(numbers, 2u + a.count);"),
+    ("expect: room 1024 bad", "calls.c", "{ 65535, MOST_WORDS }", "{ 65535, MOST_WORDS - 1u }"),
+    ("expect: version above 65535 taken", "calls.c", "{ 65535, MOST_WORDS }", "{ 65536, MOST_WORDS }"),
+    ("expect: 1,023 records", "calls.c", "{ 65535, MOST_WORDS }, MOST_WORDS,",
+     "{ 65535, MOST_WORDS }, MOST_WORDS - 1u,"),
+    ("expect: lines as long as a replay's", "calls.c", 'sizeof "expect 65535 1024"', 'sizeof "replay 65535"'),
+
+    # The program expect.
+    ("expect: a refused header written", "expect.c", HEADER,
+     "    if ((number == CAPTURE_BAD_MARK || number == CAPTURE_BAD_VERSION) &&\n"
+     "        !write_bytes(source, header, sizeof header))\n        return false;\n" + HEADER),
+    ("expect: a short header written", "expect.c", HEADER,
+     "    if (number == CAPTURE_BAD_RECORD && !write_bytes(source, header, 1))\n"
+     "        return false;\n" + HEADER),
+    ("expect: records written where the version is refused", "expect.c", HEADER,
+     "    if (number == CAPTURE_BAD_VERSION && !expect_blocks(source, &(uint32_t){ 0 }))\n"
+     "        return false;\n" + HEADER),
+    ("expect: no header", "expect.c", "write_bytes(source, header, sizeof header) &&\n", "true &&\n"),
+    ("expect: a header without its pad", "expect.c", "header, sizeof header)", "header, sizeof header - 2u)"),
+    ("expect: the header with version 2", "expect.c", HEADER, "    header[4]++;\n" + HEADER),
+    ("expect: bytes left over ignored", "expect.c", LEFT, LEFT.replace("!= 0u", "> 3u")),
+    ("expect: three bytes left over ignored", "expect.c", LEFT, LEFT.replace("!= 0u", "% 3u != 0u")),
+    ("expect: a record for the bytes left over", "expect.c", BLOCK,
+     BLOCK.replace("answer.count", "answer.count + (block.left != 0u)")),
+    ("expect: the block of a bad record not written", "expect.c", BLOCK,
+     BLOCK.replace("!write_words", "answer.number == UART_DONE && !write_words")),
+    ("expect: the whole block of a bad record written", "expect.c", BLOCK,
+     BLOCK.replace("answer.count", "block.count")),
+    ("expect: the last record before a bad one not written", "expect.c", BLOCK,
+     BLOCK.replace("answer.count", "answer.count - (answer.number != UART_DONE && answer.count > 0u)")),
+    ("expect: goes on behind a bad record's block", "expect.c", "answer.number == UART_DONE && !block.last);",
+     "!block.last);"),
+    ("expect: one block only", "expect.c", "answer.number == UART_DONE && !block.last);", "false);"),
+    ("expect: each block from the fresh state", "expect.c", "        source_next(source, &block);\n",
+     "        uart_fresh(&u);\n        source_next(source, &block);\n"),
+    ("expect: one word too few for a block", "expect.c", "words, SOURCE_BLOCK_RECORDS);",
+     "words, SOURCE_BLOCK_RECORDS - 1u);"),
+    ("expect: high byte first", "expect.c", ">> 8 * (i % SOURCE_RECORD_BYTES)",
+     ">> 8 * (3u - i % SOURCE_RECORD_BYTES)"),
+    ("expect: the number on standard output", "expect.c", TOLD, TOLD.replace("stderr", "stdout")),
+    ("expect: no number told", "expect.c", TOLD, "        return true;\n"),
+    ("expect: a record's refusal not told", "expect.c", "    *number = answer.number;\n", ""),
+    ("expect: the number without its newline", "expect.c", TOLD, TOLD.replace("\\n", "")),
+    ("expect: a word before the number", "expect.c", TOLD, TOLD.replace('"%"', '"refused %"')),
+    ("expect: 0 told where nothing is refused", "expect.c", "    if (number != UART_DONE)\n", ""),
+    ("expect: status 2 at a refusal", "expect.c", "    return true;\n}\n\nint main",
+     "    return number == UART_DONE;\n}\n\nint main"),
 ]
 
 
 def build(folder, changes):
-    """Builds both programs; returns the folder."""
+    """Builds the programs; returns the folder."""
     os.makedirs(folder, exist_ok=True)
     for name in HEADERS + MODEL + tuple(program + ".c" for program in PROGRAMS):
         with open(os.path.join(HERE, name)) as source:
@@ -904,13 +1082,13 @@ def build(folder, changes):
 
 def found_at(good, bad, given):
     """Where compare.py finds the difference: `call N`, `pair N` or `capture N`, or None."""
-    calls, replays = ([os.path.join(folder, program) for folder in (bad, good)]
-                      for program in PROGRAMS)
+    calls, replays, expects = ([os.path.join(folder, program) for folder in (bad, good)]
+                               for program in PROGRAMS)
     done = subprocess.run([sys.executable, "-B", os.path.join(HERE, "compare.py"), *calls,
                            "--seed", str(given.seed), "--calls", str(given.calls),
-                           "--pairs", str(given.pairs),
-                           "--replays", *replays, "--captures", str(given.captures),
-                           "--save", bad], stdout=subprocess.PIPE, check=False)
+                           "--pairs", str(given.pairs), "--replays", *replays, "--expects", *expects,
+                           "--captures", str(given.captures), "--save", bad],
+                          stdout=subprocess.PIPE, check=False)
     text = done.stdout.decode("latin-1")
     match = re.search(r"^difference at (call|pair|capture) (\d+)$", text, re.M)
     if match:
@@ -920,14 +1098,34 @@ def found_at(good, bad, given):
     return None
 
 
+def stored(*names):
+    with open(os.path.join(CRATES, *names), "rb") as source:
+        return source.read()
+
+
 def found_in_script(bad):
     """The first line of the stored script that is answered otherwise: `line N`, or None."""
-    got, _ = ask.answer_from_file(os.path.join(bad, "calls"), os.path.join(STORED, "stdin"))
-    with open(os.path.join(STORED, "stdout"), "rb") as answers:
-        want = answers.read()
+    got, _, _ = ask.answer_from_file(os.path.join(bad, "calls"), os.path.join(CRATES, "calls", "stdin"))
+    want = stored("calls", "stdout")
     if got == want:
         return None
     return "line", 1 + first_difference(got.split(b"\n"), want.split(b"\n"))
+
+
+def found_in_captures(good, bad):
+    """The first stored capture that is replayed otherwise, or of which something else is expected:
+    `guesses 0`, which is that of the program `expect`, `replay N` or `expect N`, or None."""
+    replay, expect = (os.path.join(bad, program) for program in PROGRAMS[1:])
+    guessed = ask.answer_from_file(expect, os.path.join(CRATES, "expect", "stdin"))
+    if guessed != (stored("expect", "stdout"), b"8\n", 0):
+        return "guesses", 0
+    for number, line in enumerate(stored("replay_stored", "stdout").splitlines(True)):
+        name = os.path.join(CRATES, "replay_stored", "data", "%03d" % number)
+        if ask.answer_from_file(replay, name) != (line, b"", 0):
+            return "replay", number
+        if ask.answer_from_file(expect, name) != ask.answer_from_file(os.path.join(good, "expect"), name):
+            return "expect", number
+    return None
 
 
 def main():
@@ -937,7 +1135,7 @@ def main():
     parser.add_argument("--captures", type=int, default=400)
     parser.add_argument("--seed", type=int, default=1)
     parser.add_argument("--only", default="", help="text in the name, or a file")
-    parser.add_argument("--stored", action="store_true", help="asks the stored script instead")
+    parser.add_argument("--stored", action="store_true", help="asks what is stored instead")
     given = parser.parse_args()
     missed = 0
     tried = 0
@@ -948,7 +1146,10 @@ def main():
             if given.only not in name and given.only != file:
                 continue
             bad = build(os.path.join(folder, "bad"), [(file, old, new)])
-            found = found_in_script(bad) if given.stored else found_at(good, bad, given)
+            if given.stored:
+                found = found_in_script(bad) or found_in_captures(good, bad)
+            else:
+                found = found_at(good, bad, given)
             tried += 1
             if found is None:
                 missed += 1

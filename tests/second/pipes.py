@@ -1,5 +1,5 @@
 #!/usr/bin/env python3
-"""Sends captures to `replay` through pipes, in pieces of odd sizes.
+"""Sends captures to `replay` or `expect` through pipes, in pieces of odd sizes.
 
 usage: pipes.py PROGRAM SECOND CAPTURE..
 
@@ -7,6 +7,7 @@ PROGRAM has to answer as SECOND does to the same capture as a file, however the 
 header, a record or a block.
 """
 
+import os
 import sys
 
 import ask
@@ -42,7 +43,8 @@ def check(program, second, name):
             wrong += 1
             if wrong <= MOST_SHOWN:
                 sizes = ", ".join(str(len(piece)) for piece in cut[:3])
-                print("%s in pieces of %s ..: %r, should be %r" % (name, sizes, got, want))
+                print("%s in pieces of %s ..: %s, should be %s"
+                      % (name, sizes, ask.brief(got), ask.brief(want)))
     return len(cuts), wrong
 
 
@@ -51,7 +53,8 @@ def main():
         sys.exit(__doc__.strip())
     _, program, second, *names = sys.argv
     tried, wrong = map(sum, zip(*(check(program, second, name) for name in names)))
-    print("pipes: %d captures, %d times in pieces, %d wrong" % (len(names), tried, wrong))
+    print("pipes, %s: %d captures, %d times in pieces, %d wrong"
+          % (os.path.basename(program), len(names), tried, wrong))
     sys.exit(1 if wrong else 0)
 
 

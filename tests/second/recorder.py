@@ -1,5 +1,5 @@
-"""Records captures from the second program: every step is made by its `calls`, in one process, and
-becomes a record; the byte of a read is the one answered."""
+"""Steps as records: with guesses for the bytes read, or recorded from the second program, where every
+step is made by its `calls`, in one process, and the byte of a read is the one answered."""
 
 import utr
 from ask import Talk
@@ -9,12 +9,35 @@ from steps import Steps
 AHEAD = 500
 
 
-class Recorder(Steps):
+class Guesser(Steps):
+    """The records of what would be done with a device; guess() gives the byte of a read."""
+
+    def __init__(self, guess):
+        self.guess = guess
+        self.records = []
+
+    def step(self, line):
+        """A step in the text protocol, as its record or, for many ticks, records."""
+        name, *numbers = line.split(" ")
+        numbers = [int(number) for number in numbers]
+        if name in ("tick", "ticks"):
+            self.records += utr.ticks(numbers[0] if numbers else 1)
+        elif name == "read":
+            self.records.append(utr.record(utr.READ, numbers[0], self.guess()))
+        else:
+            self.records.append(utr.record(utr.NAMES.index(name), *numbers))
+
+    def taken(self):
+        """The records so far."""
+        return list(self.records)
+
+
+class Recorder(Guesser):
     """A device from the fresh state on, and the records of what was done with it."""
 
     def __init__(self, calls):
+        super().__init__(lambda: 0)
         self.talk = Talk(calls)
-        self.records = []
         self.lines = []  # not sent yet
         self.places = []  # for each of them, the place of its read, or None
         self.start()
@@ -41,18 +64,8 @@ class Recorder(Steps):
         self.places = []
 
     def step(self, line):
-        """A step in the text protocol, as its record or, for many ticks, records."""
-        name, *numbers = line.split(" ")
-        numbers = [int(number) for number in numbers]
-        place = None
-        if name in ("tick", "ticks"):
-            self.records += utr.ticks(numbers[0] if numbers else 1)
-        elif name == "read":
-            place = len(self.records)
-            self.records.append(utr.record(utr.READ, numbers[0], 0))
-        else:
-            self.records.append(utr.record(utr.NAMES.index(name), *numbers))
-        self.send(line, place)
+        super().step(line)
+        self.send(line, len(self.records) - 1 if line.startswith("read ") else None)
 
     def byte(self, address):
         """A read whose byte is needed at once."""
@@ -61,9 +74,8 @@ class Recorder(Steps):
         return self.records[-1] & 255
 
     def taken(self):
-        """The records so far."""
         self.settle()
-        return list(self.records)
+        return super().taken()
 
     def close(self):
         self.talk.end()

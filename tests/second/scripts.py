@@ -1,18 +1,21 @@
 #!/usr/bin/env python3
 """Writes scripts for `calls` into a folder, one file for each subject.
 
-usage: scripts.py FOLDER
+usage: scripts.py CALLS FOLDER
 
 The scripts are the same at every run. Each is named NN-subject.in; INDEX lists
-them with what they exercise. The answers are made by running `calls` on them.
+them with what they exercise. The answers are made by running `calls` on them; CALLS,
+the second program's, is asked here for what is then replayed.
 """
 
 import os
 import sys
 from itertools import product
 
+import ask
 import captures
 import divisors
+import guesses
 import parts
 import readings
 import rows
@@ -27,8 +30,9 @@ from steps import (EIGHT_BITS, EVEN_PARITY, FIVE_BITS, FCR, IER, IIR, LCR, LSR, 
 class Script(Lines):
     """The lines of one script."""
 
-    def __init__(self):
+    def __init__(self, calls):
         super().__init__([])
+        self.calls = calls
         self.last_newline = True
 
     def raw(self, *lines):
@@ -51,6 +55,14 @@ class Script(Lines):
     def replay(self, words, version=1):
         """A replay, and the state it leaves."""
         self.raw(" ".join(map(str, ["replay", version, *words])), "state")
+
+    def promise(self, s, words, room):
+        """The capture expected from a state, the state it leaves; then its replay from the same state,
+        and the state that leaves."""
+        start, line = st.load_line(s), guesses.line(words, room)
+        _, count, *written = ask.answer_lines(self.calls, [start, line])[1].split()
+        self.raw(start, line, "state", start)
+        self.replay(written[:int(count)])
 
     def up_to_stop_sample(self, bits):
         """A character up to one pulse before its stop sample, D = 1; then that pulse."""
@@ -1164,6 +1176,12 @@ BAD_LINES = (
     "divisor +1 2", "divisor 4294967296 1", "divisor 1 4294967296", "divisor 18446744073709551617 1",
     "divisor 1.0 2", "divisor 1,2", "divisor x 2", "divisor 1 x", "divisor 1\t2", "divisor 1 2\r",
     " divisor 1 2", "Divisor 1 2", "divisors 1 2", "divisor1 2", "diviso 1 2",
+    "expect", "expect ", "expect 1", "expect 1 ", "expect 1 0 ", "expect  1 0", "expect 1  0", "expect 1 0  0",
+    "expect 65536 0", "expect 1 1025", "expect 1 65536", "expect 1 4294967295", "expect 1 4294967296",
+    "expect 4294967297 0", "expect 1 0 4294967296", "expect 01 0", "expect 1 00", "expect 1 01", "expect 1 0 00",
+    "expect 1 1 00", "expect -1 0", "expect 1 -1", "expect 1 -0", "expect 1 +1", "expect 1 0 -1", "expect 1 1.0",
+    "expect 1,0", "expect x 0", "expect 1 x", "expect 1 0 x", "expect 1\t0", "expect 1 0\t0", "expect 1 0\r",
+    "expect 1 0\t", " expect 1 0", "Expect 1 0", "expects 1 0", "expect1 0", "expec 1 0",
     "help", "quit", "exit", "?", "#", "# fresh", ";", "tick;tick", "read 5;", "'tick'", "0", "1 2",
     "x" * (LOAD - 1), "x" * LOAD, "x" * (LOAD + 1), "x" * 9000, "tick" + " " * 5000, "level " + "0" * 5000,
     " " * 4000, "load" + " 4294967295" * (PLACES + 1), "load" + " 0" * st.KEPT,
@@ -1185,6 +1203,7 @@ def bad_lines(q):
     q.raw("tick", "ticks 1", "read 5", "write 7 255", "sin 1", "sin 0", "modem 15", "pins",
           "forecast", "level 0", "level 4294967295", "run 0", "run 4294967295", "reset", "fresh",
           "divisor 3072000 7200", "divisor 0 0", "divisor 4294967295 4294967295",
+          "expect 1 0", "expect 0 0", "expect 65535 1", "expect 1 3 0 65535", "expect 1 1 4294967295",
           "load" + " 0" * PLACES, "load" + " 4294967295" * PLACES, "pins", "state")
 
 
@@ -1617,6 +1636,14 @@ def divisors_for_rates(q):
     divisor_states(q)
 
 
+def expected_captures(q):
+    """Every rule of the writer; what it writes, replayed."""
+    for case in guesses.cases():
+        q.promise(*case)
+    q.raw(*guesses.refusals())
+    q.raw(*guesses.long_lines())
+
+
 def random_states(seed, count):
     def subject(q):
         """Random states near boundaries, one step, the state it leaves."""
@@ -1683,17 +1710,18 @@ SUBJECTS = (
     ("part", "which part of a state is bad", bad_parts),
     ("kept-errors", "errors kept apart in character mode", kept_errors),
     ("divisor", "the divisor for a rate, and its error", divisors_for_rates),
+    ("expect", "the capture expected: records, rooms, refusals, its replay", expected_captures),
 )
 
 
 def main():
-    if len(sys.argv) != 2:
+    if len(sys.argv) != 3:
         sys.exit(__doc__.strip())
-    folder = sys.argv[1]
+    _, calls, folder = sys.argv
     os.makedirs(folder, exist_ok=True)
     index = []
     for number, (name, about, subject) in enumerate(SUBJECTS, 1):
-        q = Script()
+        q = Script(calls)
         subject(q)
         file = "%02d-%s.in" % (number, name)
         text = "\n".join(q.lines) + ("\n" if q.last_newline else "")

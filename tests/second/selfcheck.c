@@ -17,11 +17,14 @@
  * Replay: on random states and records, against the checked calls made one by
  * one, with differences and bad records put in.
  *
+ * Expected captures: on the same with other bytes in the reads, in runs with and
+ * without room, with bad records put in; what is written agrees when it is replayed.
+ *
  * Divisors: the examples of document 02, request e, and random pairs of a clock and
  * a rate, against the rounded quotient and the bounds of the error.
  */
-#include "capture.h"
 #include "divisor.h"
+#include "expected.h"
 
 #include <inttypes.h>
 #include <stdio.h>
@@ -36,6 +39,7 @@
 #define JOURNEY_STEPS 2000u
 #define REPLAYS 20000u
 #define REPLAY_RECORDS 40u
+#define EXPECTED_ROOM (REPLAY_RECORDS + 10u)
 #define PAIRS 20000u
 #define LONGEST_STRING (192u + 64u * 192u)
 
@@ -611,10 +615,21 @@ static void check_replay(const struct uart *first, uint32_t version, const uint3
         fail("replay's state", first, 0u, 1u);
 }
 
+/* Good records that agree, and the states before each and at the end. */
+static void draw_records(const struct uart *first, struct uart states[REPLAY_RECORDS + 1u],
+                         uint32_t records[REPLAY_RECORDS])
+{
+    states[0] = *first;
+    for (uint32_t i = 0u; i < REPLAY_RECORDS; i++) {
+        states[i + 1u] = states[i];
+        records[i] = draw_record(&states[i + 1u]);
+    }
+}
+
 /* Agreed; then with another byte or a bad record at one place, a bad version, a bad state. */
 static void check_replays(const struct uart *first)
 {
-    struct uart states[REPLAY_RECORDS + 1u]; /* before each record, and at the end */
+    struct uart states[REPLAY_RECORDS + 1u];
     uint32_t records[REPLAY_RECORDS];
     struct replay_answer agreed = { REPLAY_AGREED, 0u, 0u, 0u, 0u, 0u };
     struct replay_answer malformed = replay_refused(1u, 0u);
@@ -622,11 +637,7 @@ static void check_replays(const struct uart *first)
     uint32_t place = draw(REPLAY_RECORDS);
     uint32_t good;
 
-    states[0] = *first;
-    for (uint32_t i = 0u; i < REPLAY_RECORDS; i++) {
-        states[i + 1u] = states[i];
-        records[i] = draw_record(&states[i + 1u]);
-    }
+    draw_records(first, states, records);
     good = records[place];
     check_replay(first, 1u, records, agreed, &states[REPLAY_RECORDS]);
     if (good >> 28 == 1u) {
@@ -643,6 +654,73 @@ static void check_replays(const struct uart *first)
     check_replay(first, 0u, records, replay_refused(7u, 0u), first);
     malformed.part = damage_some(&damaged);
     check_replay(&damaged, draw(3u), records, malformed, &damaged);
+}
+
+/* ---- Expected captures ---- */
+
+/*
+ * The answer, the words and the state that the writer leaves from a state: the first
+ * words are as many of the records that agree, those beyond are as they were.
+ */
+static void check_expected(const struct uart *first, uint32_t version, const uint32_t *records,
+                           size_t room, struct expected_answer wanted, const uint32_t *agree,
+                           const struct uart *end)
+{
+    struct uart u = *first;
+    uint32_t before[EXPECTED_ROOM];
+    uint32_t words[EXPECTED_ROOM];
+    struct expected_answer got;
+
+    for (size_t i = 0; i < EXPECTED_ROOM; i++)
+        before[i] = words[i] = draw(UINT32_MAX);
+    got = expected(&u, version, records, REPLAY_RECORDS, words, room);
+    expect("writer's number", first, wanted.number, got.number);
+    expect("writer's part", first, wanted.part, got.part);
+    expect("words written", first, (uint32_t)wanted.count, (uint32_t)got.count);
+    if (memcmp(words, agree, wanted.count * sizeof words[0]) != 0)
+        fail("written words", first, 0u, 1u);
+    if (memcmp(words + wanted.count, before + wanted.count,
+               (EXPECTED_ROOM - wanted.count) * sizeof words[0]) != 0)
+        fail("words beyond", first, 0u, 1u);
+    if (memcmp(&u, end, sizeof u) != 0)
+        fail("writer's state", first, 0u, 1u);
+    if (wanted.number == 1u || wanted.number == 7u)
+        return;
+    u = *first;
+    expect("replay of the words", first, REPLAY_AGREED,
+           replay(&u, version, words, got.count).outcome);
+    if (memcmp(&u, end, sizeof u) != 0)
+        fail("state after the words", first, 0u, 1u);
+}
+
+/* Reads with any byte; rooms; a bad record before, at and behind the room's end; 7 and 1. */
+static void check_writer(const struct uart *first)
+{
+    struct uart states[REPLAY_RECORDS + 1u];
+    uint32_t agree[REPLAY_RECORDS];
+    uint32_t records[REPLAY_RECORDS];
+    struct expected_answer done = { 0u, 0u, REPLAY_RECORDS };
+    struct expected_answer full = { 16u, 0u, draw(REPLAY_RECORDS) };
+    struct expected_answer bad = { 8u, 0u, draw(REPLAY_RECORDS) };
+    struct expected_answer unknown = { 7u, 0u, 0u };
+    struct expected_answer malformed = { 1u, 0u, 0u };
+    struct uart damaged = *first;
+
+    draw_records(first, states, agree);
+    for (size_t i = 0; i < REPLAY_RECORDS; i++)
+        records[i] = agree[i] >> 28 == 1u && draw(4u) != 0u ? agree[i] ^ draw(256u) : agree[i];
+    check_expected(first, 1u, records, REPLAY_RECORDS + draw(11u), done, agree,
+                   &states[REPLAY_RECORDS]);
+    check_expected(first, 1u, records, full.count, full, agree, &states[full.count]);
+    records[bad.count] = draw_bad_record(records[bad.count]);
+    check_expected(first, 1u, records, bad.count, bad, agree, &states[bad.count]);
+    check_expected(first, 1u, records, bad.count + draw(11u), bad, agree, &states[bad.count]);
+    if (full.count < bad.count)
+        check_expected(first, 1u, records, full.count, full, agree, &states[full.count]);
+    check_expected(first, draw(2u) != 0u ? 2u + draw(65534u) : 0u, records, draw(EXPECTED_ROOM),
+                   unknown, agree, first);
+    malformed.part = damage_some(&damaged);
+    check_expected(&damaged, draw(3u), records, draw(EXPECTED_ROOM), malformed, agree, &damaged);
 }
 
 /* ---- Divisors ---- */
@@ -753,6 +831,11 @@ int main(void)
     }
     printf("replay: %u states with %u records each as the calls one by one\n", REPLAYS,
            REPLAY_RECORDS);
+    for (uint32_t i = 0u; i < REPLAYS; i++) {
+        draw_state(&u, 5u);
+        check_writer(&u);
+    }
+    printf("expected captures: %u states, what is written agrees\n", REPLAYS);
     check_examples();
     for (uint32_t i = 0u; i < PAIRS; i++)
         check_pair();

@@ -4,6 +4,8 @@
 #include "stream.h"
 
 #include <errno.h>
+#include <stdio.h>
+#include <string.h>
 #include <unistd.h>
 
 ssize_t stream_read(int fd, void *buffer, size_t size)
@@ -29,4 +31,10 @@ bool stream_write(const char *bytes, size_t length)
         }
     }
     return true;
+}
+
+bool stream_trouble(const char *program, const char *name)
+{
+    fprintf(stderr, "%s: %s: %s\n", program, name, strerror(errno));
+    return false;
 }

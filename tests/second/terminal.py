@@ -1,10 +1,11 @@
 #!/usr/bin/env python3
-"""Checks what `calls` and `replay` say to a terminal.
+"""Checks what the programs say to a terminal.
 
-usage: terminal.py CALLS REPLAY
+usage: terminal.py PROGRAM..
 
-The hint of what is awaited stands on standard error where the input is a terminal; how far a replay is
-stands there where standard error is one, and is cleared at the end.
+Each PROGRAM is `calls`, `replay` or `expect`, by its name. The hint of what is awaited stands on
+standard error where the input is a terminal; how far a replay or an expected capture is stands there
+where standard error is one, and is cleared at the end.
 """
 
 import os
@@ -19,19 +20,14 @@ import time
 import ask
 import utr
 
-HINTS = {"calls": "calls: one call to a line, for example: read 5 (Ctrl-D ends)\n",
-         "replay": "replay: a capture is awaited on standard input (replay FILE takes a file)\n"}
-SHOWN = re.compile(rb"(\rreplay: [1-9][0-9]* records)+\r\x1b\[K")
+HINTS = {"calls": b"calls: one call to a line, for example: read 5 (Ctrl-D ends)\n",
+         "replay": b"replay: a capture is awaited on standard input (replay FILE takes a file)\n",
+         "expect": b"expect: a capture is awaited on standard input (expect FILE takes a file)\n"}
 # LCR and the divisor's bytes: a pulse every tick.
 AT_ONCE = [utr.record(utr.WRITE, 3, 0x80), utr.record(utr.WRITE, 0, 1), utr.record(utr.WRITE, 1, 0)]
 AGREED = utr.capture([utr.record(utr.READ, 5, 0x60)])
-
-
-def ended(words):
-    """What a program writes, and what it says on a standard error that is no terminal."""
-    done = subprocess.run(words, stdin=subprocess.DEVNULL, stdout=subprocess.PIPE, stderr=subprocess.PIPE,
-                          timeout=ask.GUARD, check=False)
-    return done.stdout.decode(), done.stderr.decode()
+REFUSED = AGREED + utr.pack([0x60000000])
+NONE = b"no capture\n"
 
 
 def typed(program, text):
@@ -40,17 +36,19 @@ def typed(program, text):
     child = subprocess.Popen([program], stdin=far, stdout=subprocess.PIPE, stderr=subprocess.PIPE)
     os.close(far)
     os.write(near, text + b"\x04")
-    written, said = child.communicate(timeout=ask.GUARD)
+    answer = child.communicate(timeout=ask.GUARD)
     os.close(near)
-    return written.decode(), said.decode()
+    return answer
 
 
 class Watched:
-    """A replay whose standard error is a terminal."""
+    """A program whose standard error is a terminal. What it writes goes to a file, so that it never
+    waits for somebody to take it."""
 
-    def __init__(self, replay, source):
+    def __init__(self, program, source):
         self.near, far = pty.openpty()
-        self.child = subprocess.Popen([replay], stdin=source, stdout=subprocess.PIPE, stderr=far, bufsize=0)
+        self.written = tempfile.TemporaryFile()
+        self.child = subprocess.Popen([program], stdin=source, stdout=self.written, stderr=far, bufsize=0)
         os.close(far)
         self.said = b""
 
@@ -71,75 +69,115 @@ class Watched:
             if time.monotonic() > until:
                 self.child.kill()
         os.close(self.near)
-        written = self.child.stdout.read()
-        self.child.stdout.close()
         self.child.wait()
-        return written.decode(), self.said
+        with self.written as written:
+            written.seek(0)
+            return written.read(), self.said
 
 
-def slow_pipe(replay):
-    """A replay that gets its records one by one, until it has said how far it is."""
-    watched = Watched(replay, subprocess.PIPE)
+def slow_pipe(program):
+    """The answer to records that come one by one, until the program has said how far it is, and the
+    capture that they were."""
+    watched = Watched(program, subprocess.PIPE)
     sink = watched.child.stdin
-    sink.write(utr.header())
+    sent = utr.header()
+    sink.write(sent)
     until = time.monotonic() + ask.GUARD
     while b"records" not in watched.said and time.monotonic() < until:
-        sink.write(utr.pack([utr.record(utr.TICKS, 1)]))
+        more = utr.pack([utr.record(utr.TICKS, 1)])
+        sink.write(more)
+        sent += more
         watched.hear(0.02)
     sink.close()
-    return watched.end()
+    return watched.end(), sent
 
 
-def shown(answer):
+def from_file(program, data):
+    """The answer to a capture in a file, watched."""
+    with open("capture", "wb") as out:
+        out.write(data)
+    with open("capture", "rb") as source:
+        return Watched(program, source).end()
+
+
+def progress(name):
+    """How far a program is, said and cleared."""
+    return re.compile(rb"(\r%s: [1-9][0-9]* records)+\r\x1b\[K" % name.encode())
+
+
+def shown(name, answer):
     """The answer, and whether how far it was has been said and cleared."""
     written, said = answer
-    return written, SHOWN.fullmatch(said) is not None
+    return written, progress(name).fullmatch(said) is not None
 
 
-def quiet(answer):
-    """The answer, and whether nothing is left on the terminal."""
+def quiet(name, answer):
+    """The answer, and what is left on the terminal."""
     written, said = answer
-    return written, said == b"" or SHOWN.fullmatch(said) is not None
+    return written, progress(name).sub(b"", said)
 
 
-def long_files(replay):
-    """A replay of ticks, and one of so many more that it lasts some seconds on any machine, unless the
-    first has. Then the same where standard error is no terminal."""
+def long_file(name, program):
+    """The answer to a capture of ticks, and to one of so many more that it lasts some seconds on any
+    machine, unless the first has; and the capture. It stays in its file."""
     for count in (8000, 64000):
-        with open("ticks", "wb") as out:
-            out.write(utr.capture(AT_ONCE + utr.ticks(count * utr.MOST_TICKS)))
-        with open("ticks", "rb") as source:
-            answer = shown(Watched(replay, source).end())
+        data = utr.capture(AT_ONCE + utr.ticks(count * utr.MOST_TICKS))
+        answer = shown(name, from_file(program, data))
         if answer[1]:
             break
-    return answer, ended([replay, "ticks"])
+    return answer, data
 
 
-def terminals(calls, replay):
-    yield "calls, typed", typed(calls, b"tick\n"), ("0 0 1 0 0 0 0 0\n", HINTS["calls"])
-    yield "replay, typed", typed(replay, b"no capture\n"), ("refused 6 0\n", HINTS["replay"])
-    with open("agreed", "wb") as out:
-        out.write(AGREED)
-    with open("agreed", "rb") as source:
-        yield "a short replay", quiet(Watched(replay, source).end()), ("agreed\n", True)
-    yield "a slow pipe", shown(slow_pipe(replay)), ("agreed\n", True)
-    answer, aside = long_files(replay)
-    yield "a long replay", answer, ("agreed\n", True)
-    yield "a long replay, no terminal", aside, ("agreed\n", "")
+def of_calls(calls):
+    yield "typed", typed(calls, b"tick\n"), (b"0 0 1 0 0 0 0 0\n", HINTS["calls"])
+
+
+def of_captures(name, program, answers):
+    """Cases of a program that takes captures; answers(data) is what it writes and says."""
+    written, said = answers(NONE)
+    yield "typed", typed(program, NONE), (written, HINTS[name] + said)
+    for case, data in (("a short capture", AGREED), ("a refused one", REFUSED)):
+        written, said = answers(data)
+        yield case, quiet(name, from_file(program, data)), (written, said.replace(b"\n", b"\r\n"))
+    answer, sent = slow_pipe(program)
+    yield "a slow pipe", shown(name, answer), (answers(sent)[0], True)
+    answer, data = long_file(name, program)
+    yield "a long capture", answer, (answers(data)[0], True)
+    aside = ask.answer_apart([program, "capture"], stdin=subprocess.DEVNULL)
+    yield "a long capture, no terminal", aside[:2], answers(data)
+
+
+def replay_answers(data):
+    """What `replay` writes and says."""
+    refused = {REFUSED: b"refused 8 1\n", NONE: b"refused 6 0\n"}
+    return refused.get(data, b"agreed\n"), b""
+
+
+def expect_answers(data):
+    """What `expect` writes and says."""
+    refused = {REFUSED: (AGREED, b"8\n"), NONE: (b"", b"6\n")}
+    return refused.get(data, (data, b""))
+
+
+OF_PROGRAM = {"calls": of_calls,
+              "replay": lambda program: of_captures("replay", program, replay_answers),
+              "expect": lambda program: of_captures("expect", program, expect_answers)}
 
 
 def main():
-    if len(sys.argv) != 3:
+    if len(sys.argv) < 2:
         sys.exit(__doc__.strip())
-    programs = [os.path.abspath(name) for name in sys.argv[1:]]
     count = wrong = 0
     with tempfile.TemporaryDirectory() as folder:
+        programs = list(map(os.path.abspath, sys.argv[1:]))
         os.chdir(folder)
-        for name, got, want in terminals(*programs):
-            count += 1
-            if got != want:
-                print("%s: %r, should be %r" % (name, got, want))
-                wrong += 1
+        for program in programs:
+            name = os.path.basename(program)
+            for case, got, want in OF_PROGRAM[name](program):
+                count += 1
+                if got != want:
+                    print("%s, %s: %s, should be %s" % (name, case, ask.brief(got), ask.brief(want)))
+                    wrong += 1
         os.chdir("/")
     print("terminal: %d cases, %d wrong" % (count, wrong))
     sys.exit(1 if wrong else 0)
