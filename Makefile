@@ -19,7 +19,7 @@ PYTHON_LOOKS = $(PYTHON) -c 'import site, sys; sys.exit("$(PYTHONDIR)" not in si
 # $(call sources_of,CRATE): the code of a crate and of all that it uses.
 sources_of = $(wildcard $(patsubst %,crates/%/src/*.rt,$1 $(shell sed -n 's/^$1://p' crates.txt)))
 
-PROGRAMS = calls replay
+PROGRAMS = calls replay expect
 TOOLS = capture explain divisor-chart
 ARCHIVE = target/staticlib/libexport.a
 STATIC = $(OUT)/libtl16c750.a

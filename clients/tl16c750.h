@@ -3,12 +3,12 @@
  *
  * Each call takes the state by value and hands back the next one; nothing is kept between calls.
  * A call that is refused (number above 0) hands its state back as it was, and zeros otherwise; of a
- * replay see below.
+ * replay and of the writer of a capture see below.
  *
  * Every field of a state is an unsigned number, so every bit pattern is a value: it is well formed
  * or it is refused with UART_MALFORMED, and with the part of it that is bad. So whatever memory a caller
- * hands in, every call ends and answers by number; no caller has to look first. Only the records and
- * bytes of a replay are lent, by address: as many as it says must stand there, whatever they are.
+ * hands in, every call ends and answers by number; no caller has to look first. Only the records, words
+ * and bytes of a capture are lent, by address: as many as it says must stand there, whatever they are.
  *
  * Padding, the bytes between fields, is no part of a state: it is not looked at and comes back as
  * anything. So states are compared by uart_equal, not by memcmp, and a hash goes over the fields.
@@ -36,9 +36,9 @@ extern "C" {
 
 /* The version that this header is of; UART_LAYOUT changes where a struct does. */
 #define UART_VERSION_MAJOR 0
-#define UART_VERSION_MINOR 5
+#define UART_VERSION_MINOR 6
 #define UART_VERSION_PATCH 0
-#define UART_LAYOUT 4
+#define UART_LAYOUT 5
 
 /* The numbers answered; where two apply, the lower. */
 #define UART_DONE 0
@@ -47,10 +47,11 @@ extern "C" {
 #define UART_BAD_LEVEL 3       /* SIN above 1, or modem pins above 15 */
 #define UART_NO_CLOCK 4        /* forecast, level: work left and divisor 0 */
 #define UART_HELD_BACK 5       /* forecast, level: bytes queued and held by flow control */
-#define UART_BAD_HEADER 6      /* replay of a file: a bad mark or a nonzero pad */
-#define UART_UNKNOWN_VERSION 7 /* replay: an unknown version */
-#define UART_BAD_RECORD 8      /* replay: a record of bad kind, with stray bits, or cut off */
+#define UART_BAD_HEADER 6      /* a capture's file: a bad mark or a nonzero pad */
+#define UART_UNKNOWN_VERSION 7 /* a capture: an unknown version */
+#define UART_BAD_RECORD 8      /* a capture: a record of bad kind, with stray bits, or cut off */
 #define UART_BAD_RATE 9        /* divisor for a rate: a clock or rate outside its range */
+#define UART_NO_ROOM 16        /* expected capture: no word left for a record */
 
 /*
  * `part` of an answer, beside UART_MALFORMED: the lowest part of the state that breaks a range, here with
@@ -252,6 +253,23 @@ struct uart_progress {
     struct uart_state state;
 };
 
+/* What the writer of a capture answers: the words written, and the state after these records. */
+struct uart_expected {
+    uint8_t number;
+    uint8_t part;
+    size_t count;
+    struct uart_state state;
+};
+
+/* Where a file that is written anew stands: its version, the records that the last call wrote, the state. */
+struct uart_expect_progress {
+    uint8_t number; /* 0: going on */
+    uint8_t part;
+    uint32_t version;
+    size_t count;
+    struct uart_state state;
+};
+
 /* What the call for a divisor answers: the divisor, and its error in parts per million. */
 struct uart_picked {
     uint8_t number;
@@ -334,7 +352,39 @@ struct uart_progress uart_replay_begin(const uint8_t *first, size_t count);
 struct uart_progress uart_replay_more(struct uart_progress p, const uint8_t *bytes, size_t count);
 struct uart_replayed uart_replay_end(struct uart_progress p, const uint8_t *bytes, size_t count);
 
+/*
+ * Writes the capture that is expected of an undisturbed chip: each of count records as it stands, but a
+ * read with the model's byte in bits 0..7, into the first of `room` words. Records and versions are those
+ * of a replay, and the byte seen has no part in it. `count` of the answer is how many words were written;
+ * those beyond stay as they were. The two runs must not overlap.
+ *   number 0: all records are written, and the state is the end state;
+ *   UART_BAD_RECORD, UART_NO_ROOM: the record behind those written is bad, or is a good one with no word
+ *   left for it, and the state is that before it;
+ *   UART_MALFORMED, UART_UNKNOWN_VERSION: nothing is written, and the state is as it was.
+ * But for these last two, a replay of the words written, from the same state and with the same version,
+ * agrees and ends in the same state.
+ */
+struct uart_expected uart_expect(struct uart_state s, uint32_t version, const uint32_t *records,
+                                 size_t count, uint32_t *words, size_t room);
+
+/*
+ * The same for a capture's file whose bytes come in parts, from the fresh state. uart_expect_begin takes
+ * its first bytes and looks at the 8 of its header, which the caller writes as they are, or not at all
+ * where `number` is not 0: UART_BAD_RECORD where they are fewer, UART_BAD_HEADER, UART_UNKNOWN_VERSION.
+ * uart_expect_more takes the bytes that come after the header and writes their whole records anew, in
+ * place: the first 4 * count of the bytes, with `count` of the answer, are then those to write, and the
+ * bytes beyond stay as they were. One to three bytes at the end of a part that make no whole record are
+ * given again at the start of the next part. uart_expect_end takes the last bytes, or none, in the same
+ * way; one to three bytes left are refused with UART_BAD_RECORD.
+ * At a bad record the state is that before it, and what was written before it stands. Once `number` is
+ * not 0, nothing that comes next is written or changes the state.
+ */
+struct uart_expect_progress uart_expect_begin(const uint8_t *first, size_t count);
+struct uart_expect_progress uart_expect_more(struct uart_expect_progress p, uint8_t *bytes, size_t count);
+struct uart_expect_progress uart_expect_end(struct uart_expect_progress p, uint8_t *bytes, size_t count);
+
 #define UART_HEADER_BYTES 8
+#define UART_RECORD_BYTES 4
 #define UART_PART_BYTES 16384 /* handed on at a time */
 
 /*
@@ -365,7 +415,7 @@ static inline struct uart_replayed uart_replay_bytes_telling(const uint8_t *byte
     }
     answer = uart_replay_end(p, bytes + at, count - at);
     if (call)
-        call(context, uart_records_done(&answer.values, p.done + (count - at) / 4),
+        call(context, uart_records_done(&answer.values, p.done + (count - at) / UART_RECORD_BYTES),
              p.stopped == UART_GOING_ON ? count : at, count);
     return answer;
 }
@@ -374,6 +424,20 @@ static inline struct uart_replayed uart_replay_bytes_telling(const uint8_t *byte
 static inline struct uart_replayed uart_replay_bytes(const uint8_t *bytes, size_t count)
 {
     return uart_replay_bytes_telling(bytes, count, NULL, NULL);
+}
+
+/*
+ * Writes a capture's file that is in memory anew, in place. Answers how many of its bytes are the file
+ * that is expected: the header and the records before a bad one, or 0 where the header is refused. `count`
+ * of the answer is the records written.
+ */
+static inline size_t uart_expect_bytes(uint8_t *bytes, size_t count, struct uart_expect_progress *answer)
+{
+    *answer = uart_expect_begin(bytes, count);
+    if (answer->number != UART_DONE)
+        return 0;
+    *answer = uart_expect_end(*answer, bytes + UART_HEADER_BYTES, count - UART_HEADER_BYTES);
+    return UART_HEADER_BYTES + UART_RECORD_BYTES * answer->count;
 }
 
 #ifndef UART_NO_STDIO
@@ -417,7 +481,45 @@ static inline int uart_replay_file(FILE *file, struct uart_replayed *answer, uar
         return -1;
     *answer = uart_replay_end(p, part, got);
     if (call)
-        call(context, uart_records_done(&answer->values, p.done + got / 4), bytes, of);
+        call(context, uart_records_done(&answer->values, p.done + got / UART_RECORD_BYTES), bytes, of);
+    return 0;
+}
+
+/*
+ * Writes the file that is expected of a capture's file, each from where it stands, with 16 KiB of memory
+ * whatever the length. `count` of the answer is the records written; where the header is refused nothing
+ * is. `call` may be NULL. Answers 0, or -1 where reading or writing failed: then nothing is answered.
+ */
+static inline int uart_expect_file(FILE *in, FILE *out, struct uart_expect_progress *answer,
+                                   uart_progress_call *call, void *context)
+{
+    uint8_t part[UART_PART_BYTES];
+    size_t of = call ? uart_bytes_left(in) : 0;
+    size_t got = fread(part, 1, UART_HEADER_BYTES, in);
+    size_t bytes = got;
+    size_t records = 0;
+    int last = 0;
+    struct uart_expect_progress p = uart_expect_begin(part, got);
+
+    if (p.number == UART_DONE && fwrite(part, 1, UART_HEADER_BYTES, out) != UART_HEADER_BYTES)
+        return -1;
+    while (p.number == UART_DONE && !last) {
+        if (call && records > 0)
+            call(context, records, bytes, of);
+        got = fread(part, 1, sizeof part, in);
+        bytes += got;
+        last = got < sizeof part;
+        p = last ? uart_expect_end(p, part, got) : uart_expect_more(p, part, got);
+        records += p.count;
+        if (ferror(in) || fwrite(part, UART_RECORD_BYTES, p.count, out) != p.count)
+            return -1;
+    }
+    if (ferror(in) || fflush(out) != 0)
+        return -1;
+    *answer = p;
+    answer->count = records;
+    if (call)
+        call(context, records, bytes, of);
     return 0;
 }
 #endif
@@ -428,7 +530,7 @@ static inline int uart_replay_file(FILE *file, struct uart_replayed *answer, uar
  * (UART_STATE_FIELDS; an entry's are 18..21). The answers' own fields are numbered from 100: the
  * number answered is 100, the part beside it 113, the field after these 101, the output pins 102..107,
  * the model's byte and the place of a replay 108 and 109, a file's version, what stopped it and the
- * records done 110..112, a divisor and its error 114 and 115.
+ * records done 110..112, a divisor and its error 114 and 115, the words or records written 116.
  */
 struct uart_sizes {
     uint32_t state;
@@ -440,6 +542,8 @@ struct uart_sizes {
     uint32_t replayed;
     uint32_t progress;
     uint32_t picked;
+    uint32_t expected;
+    uint32_t expect_progress;
 };
 
 struct uart_sizes uart_sizes_of_structs(void);
@@ -452,6 +556,8 @@ struct uart_ran uart_specimen_ran(void);
 struct uart_replayed uart_specimen_replayed(void);
 struct uart_progress uart_specimen_progress(void);
 struct uart_picked uart_specimen_picked(void);
+struct uart_expected uart_specimen_expected(void);
+struct uart_expect_progress uart_specimen_expect_progress(void);
 
 #define UART_AT(type, field, place) \
     UART_STATIC_ASSERT(offsetof(struct type, field) == (place), #type "." #field)
@@ -555,6 +661,19 @@ UART_STATIC_ASSERT(sizeof(struct uart_picked) == 12, "uart_picked");
 UART_AT(uart_picked, number, 0);
 UART_AT(uart_picked, divisor, 4);
 UART_AT(uart_picked, error, 8);
+
+UART_STATIC_ASSERT(sizeof(struct uart_expected) == 400, "uart_expected");
+UART_AT(uart_expected, number, 0);
+UART_AT(uart_expected, part, 1);
+UART_AT(uart_expected, count, 8);
+UART_AT(uart_expected, state, 16);
+
+UART_STATIC_ASSERT(sizeof(struct uart_expect_progress) == 400, "uart_expect_progress");
+UART_AT(uart_expect_progress, number, 0);
+UART_AT(uart_expect_progress, part, 1);
+UART_AT(uart_expect_progress, version, 4);
+UART_AT(uart_expect_progress, count, 8);
+UART_AT(uart_expect_progress, state, 16);
 
 #define UART_SAME(field, place, number) memcmp(&a->field, &b->field, sizeof a->field) == 0 &&
 

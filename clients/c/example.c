@@ -1,7 +1,7 @@
 /*
  * Sends a message, clears the transmit FIFO in the middle of a character, and prints what left the
  * line: the character that had begun is finished, as the part finishes it. Then replays a capture of
- * the same, from records and from a file.
+ * the same, from records and from a file, and writes the one that is expected where a read differs.
  */
 #include "tl16c750.h"
 
@@ -14,6 +14,7 @@
 #define PULSES_PER_BIT 16 /* and a tick is a pulse: the divisor is 1 */
 #define BITS_PER_FRAME 10 /* start, eight data bits, stop */
 #define MOST_TICKS 4096
+#define MOST_RECORDS 8
 
 static struct uart_state uart;
 
@@ -134,22 +135,36 @@ static void print_progress(void *context, size_t records, size_t bytes, size_t o
     printf("file: %zu records, %zu of %zu bytes\n", records, bytes, of);
 }
 
-/* Replays the same as a file: the header (mark, version, pad), then each record, little-endian. */
-static void print_file(const uint32_t *records, size_t count)
+static FILE *new_file(void)
 {
-    const uint8_t header[UART_HEADER_BYTES] = {'U', 'T', 'R', 0, 1, 0, 0, 0};
     FILE *file = tmpfile();
-    struct uart_replayed r;
 
     if (file == NULL) {
         perror("a file for the capture");
         exit(EXIT_FAILURE);
     }
+    return file;
+}
+
+/* The same as a file: the header (mark, version, pad), then each record, little-endian. */
+static FILE *file_of(const uint32_t *records, size_t count)
+{
+    const uint8_t header[UART_HEADER_BYTES] = {'U', 'T', 'R', 0, 1, 0, 0, 0};
+    FILE *file = new_file();
+
     fwrite(header, 1, sizeof header, file);
     for (size_t i = 0; i < count; i++)
         for (unsigned shift = 0; shift < 32; shift += 8)
             fputc((int)(records[i] >> shift & 0xFF), file);
     rewind(file);
+    return file;
+}
+
+/* Replays a file, and closes it. */
+static void print_file(FILE *file)
+{
+    struct uart_replayed r;
+
     if (uart_replay_file(file, &r, print_progress, NULL) != 0) {
         perror("the capture");
         exit(EXIT_FAILURE);
@@ -158,10 +173,40 @@ static void print_file(const uint32_t *records, size_t count)
     print_outcome("file", r.values);
 }
 
+/* Writes the capture that is expected for these records from the fresh state, and replays it. */
+static void print_expected(const uint32_t *records, size_t count)
+{
+    uint32_t words[MOST_RECORDS];
+    struct uart_expected e = uart_expect(uart_fresh(), 1, records, count, words, MOST_RECORDS);
+
+    if (e.number != UART_DONE) {
+        printf("expected: refused %d, %zu records written\n", e.number, e.count);
+        return;
+    }
+    printf("expected: %zu records, the last is %08" PRIX32 "\n", e.count, words[e.count - 1]);
+    print_replay(words, e.count);
+}
+
+/* The same from a file into another one. */
+static void print_expected_file(FILE *file)
+{
+    FILE *expected = new_file();
+    struct uart_expect_progress e;
+
+    if (uart_expect_file(file, expected, &e, NULL, NULL) != 0) {
+        perror("the expected capture");
+        exit(EXIT_FAILURE);
+    }
+    fclose(file);
+    printf("expected file: number %d, %zu records\n", e.number, e.count);
+    rewind(expected);
+    print_file(expected);
+}
+
 /* A character is on the line when the transmit FIFO is cleared; LSR is read then. */
 static void replay_captures(void)
 {
-    uint32_t records[] = {
+    uint32_t records[MOST_RECORDS] = {
         0x20000383, /* LCR 83: the divisor at 0 and 1 */
         0x20000001, /* DLL 01 */
         0x20000303, /* LCR 03 */
@@ -171,15 +216,17 @@ static void replay_captures(void)
         0x20000205, /* FCR 05: transmit FIFO cleared */
         0x10000520, /* LSR: 20 seen */
     };
-    size_t count = sizeof records / sizeof records[0];
 
-    print_replay(records, count);
-    print_file(records, count);
+    print_replay(records, MOST_RECORDS);
+    print_file(file_of(records, MOST_RECORDS));
     records[7] = 0x10000560; /* LSR: 60 seen */
-    print_replay(records, count);
+    print_replay(records, MOST_RECORDS);
     print_forecast();
+    print_expected(records, MOST_RECORDS);
+    print_expected_file(file_of(records, MOST_RECORDS));
     records[5] = 0x60000000; /* of no kind */
-    print_replay(records, count);
+    print_replay(records, MOST_RECORDS);
+    print_expected(records, MOST_RECORDS);
 }
 
 int main(void)

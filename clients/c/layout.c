@@ -62,6 +62,23 @@ static void check_picked(struct uart_picked p)
     HAS(p, error, 115);
 }
 
+static void check_expected(struct uart_expected e)
+{
+    HAS(e, number, 100);
+    HAS(e, part, 113);
+    HAS(e, count, 116);
+    check_state(e.state);
+}
+
+static void check_expect_progress(struct uart_expect_progress p)
+{
+    HAS(p, number, 100);
+    HAS(p, part, 113);
+    HAS(p, version, 110);
+    HAS(p, count, 116);
+    check_state(p.state);
+}
+
 static void check_specimens(void)
 {
     struct uart_answer answer = uart_specimen_answer();
@@ -99,6 +116,8 @@ static void check_specimens(void)
     check_values(progress.values);
     check_state(progress.state);
     check_picked(uart_specimen_picked());
+    check_expected(uart_specimen_expected());
+    check_expect_progress(uart_specimen_expect_progress());
 }
 
 static void check_sizes(void)
@@ -114,6 +133,8 @@ static void check_sizes(void)
     expect(sizes.replayed == sizeof(struct uart_replayed), "size of replayed");
     expect(sizes.progress == sizeof(struct uart_progress), "size of progress");
     expect(sizes.picked == sizeof(struct uart_picked), "size of picked");
+    expect(sizes.expected == sizeof(struct uart_expected), "size of expected");
+    expect(sizes.expect_progress == sizeof(struct uart_expect_progress), "size of expect_progress");
 }
 
 /* A state handed in reaches the library field by field: what it is refused for, and what not. */
@@ -177,6 +198,54 @@ static void check_records(void)
     r = uart_replay(uart_specimen_state(), 0, records, 4);
     expect(r.values.number == UART_MALFORMED && r.values.place == 0, "replay from the specimen");
     check_state(r.state);
+}
+
+/* Records and words handed in reach the library, and no more of them than are lent. */
+static void check_words(void)
+{
+    const uint32_t records[] = {0x2000075A, 0x10000700, 0xFFFFFFFF};
+    uint32_t words[] = {1, 2, 3};
+    struct uart_state specimen = uart_specimen_state();
+    struct uart_expected e;
+
+    e = uart_expect(specimen, 0, records, 3, words, 3);
+    expect(e.number == UART_MALFORMED && e.count == 0, "words from the specimen");
+    check_state(e.state);
+    e = uart_expect(uart_fresh(), 1, records + 1, 1, words + 1, 1);
+    expect(e.number == UART_DONE && e.count == 1, "count of a word");
+    expect(words[0] == 1 && words[1] == 0x10000700 && words[2] == 3, "a word in the middle");
+    e = uart_expect(uart_fresh(), 1, records, 2, words, 2);
+    expect(e.number == UART_DONE && e.count == 2, "count of two");
+    expect(words[0] == records[0] && words[1] == 0x1000075A && words[2] == 3, "two words");
+    expect(e.state.registers.scr == 0x5A, "state after two words");
+}
+
+/* Any progress of a file that is written anew is carried on; once it is refused nothing is written. */
+static void check_expect_parts(void)
+{
+    uint8_t read[] = {0xFF, 7, 0, 0x10};
+    struct uart_expect_progress p = uart_specimen_expect_progress();
+
+    p = uart_expect_end(uart_expect_more(p, read, 4), read, 4);
+    expect(p.number == 100 && p.count == 0 && read[0] == 0xFF, "what is refused stays so");
+    check_state(p.state);
+    p = uart_specimen_expect_progress();
+    p.number = UART_DONE;
+    p = uart_expect_more(p, read, 4);
+    expect(p.number == UART_MALFORMED && p.part == UART_IN_REGISTERS, "a file's malformed state");
+    expect(p.count == 0 && read[0] == 0xFF, "nothing written from a malformed state");
+    p.number = UART_DONE;
+    p.state = uart_fresh();
+    p.version = 0x10001;
+    p = uart_expect_more(p, read, 4);
+    expect(p.number == UART_UNKNOWN_VERSION && p.count == 0 && read[0] == 0xFF, "a file's version 10001 hex");
+    p.number = UART_DONE;
+    p.version = 1;
+    p.state.registers.scr = 0x5A;
+    p = uart_expect_more(p, read, 4);
+    expect(p.number == UART_DONE && p.count == 1 && read[0] == 0x5A, "a read in a file");
+    p = uart_expect_end(p, read, 3);
+    expect(p.number == UART_BAD_RECORD && p.count == 0 && p.part == 0, "three bytes left");
 }
 
 /* Any progress handed in is carried on, and one beyond what a file can have is refused. */
@@ -253,6 +322,7 @@ static void check_any_memory(void)
         expect(memcmp(a.state.tx.bytes, s.tx.bytes, sizeof s.tx.bytes) == 0, "noise back");
         expect(uart_run(s, UINT32_MAX).used == 0, "run of noise");
         expect(uart_replay(s, 1, &x, 1).values.number == UART_MALFORMED, "replay from noise");
+        expect(uart_expect(s, 1, &x, 1, NULL, 0).number == UART_MALFORMED, "words from noise");
     }
 }
 
@@ -262,7 +332,9 @@ int main(void)
     check_specimens();
     check_parameters();
     check_records();
+    check_words();
     check_progress();
+    check_expect_parts();
     check_equal();
     check_version();
     check_any_memory();

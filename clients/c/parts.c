@@ -4,6 +4,7 @@
 #include <stdio.h>
 #include <stdlib.h>
 
+static const uint8_t header[] = {'U', 'T', 'R', 0, 1, 0, 0, 0};
 static const uint8_t tick[] = {1, 0, 0, 0};
 static int wrong;
 
@@ -51,9 +52,13 @@ static struct uart_state sound(void)
 static void refused(struct uart_state s, uint8_t part, const char *what)
 {
     const uint32_t bad = 0xFFFFFFFF;
-    struct uart_progress p = uart_replay_begin((const uint8_t *)"UTR\0\1\0\0", UART_HEADER_BYTES);
+    uint32_t word = 0;
+    uint8_t read[] = {0xFF, 5, 0, 0x10};
+    struct uart_progress p = uart_replay_begin(header, UART_HEADER_BYTES);
+    struct uart_expect_progress e = uart_expect_begin(header, UART_HEADER_BYTES);
 
     p.state = s;
+    e.state = s;
     REFUSED(uart_reset(s));
     REFUSED(uart_read(s, 8));
     REFUSED(uart_write(s, UART_SCR, 0));
@@ -68,6 +73,10 @@ static void refused(struct uart_state s, uint8_t part, const char *what)
     REFUSED(uart_replay(s, 0, &bad, 1).values);
     REFUSED(uart_replay_more(p, tick, sizeof tick).values);
     REFUSED(uart_replay_end(p, tick, sizeof tick).values);
+    REFUSED(uart_expect(s, 0, &bad, 1, &word, 0));
+    REFUSED(uart_expect_more(e, read, sizeof read));
+    REFUSED(uart_expect_end(e, read, sizeof read));
+    expect(read[0] == 0xFF, "uart_expect_more", "bytes as they were");
 }
 
 /* One number of the sound state is another. */
@@ -166,6 +175,8 @@ static void check_other_numbers(void)
 {
     const uint32_t bad = 0xFFFFFFFF;
     const uint8_t *mark = (const uint8_t *)"UTX\0\1\0\0";
+    const uint8_t *version = (const uint8_t *)"UTR\0\2\0\0";
+    uint32_t word = 0;
     struct uart_state s = sound();
 
     ANSWERS(uart_reset(s), UART_DONE);
@@ -179,6 +190,13 @@ static void check_other_numbers(void)
     ANSWERS(uart_replay(s, 1, &bad, 1).values, UART_BAD_RECORD);
     ANSWERS(uart_replay(s, 1, &bad, 0).values, UART_DONE);
     ANSWERS(uart_replay_bytes(mark, UART_HEADER_BYTES).values, UART_BAD_HEADER);
+    ANSWERS(uart_expect(s, 0, &bad, 1, &word, 0), UART_UNKNOWN_VERSION);
+    ANSWERS(uart_expect(s, 1, &bad, 1, &word, 0), UART_BAD_RECORD);
+    ANSWERS(uart_expect(s, 1, &word, 1, NULL, 0), UART_NO_ROOM);
+    ANSWERS(uart_expect_begin(mark, UART_HEADER_BYTES), UART_BAD_HEADER);
+    ANSWERS(uart_expect_begin(version, UART_HEADER_BYTES), UART_UNKNOWN_VERSION);
+    ANSWERS(uart_expect_begin(header, UART_HEADER_BYTES - 1), UART_BAD_RECORD);
+    ANSWERS(uart_expect_begin(header, UART_HEADER_BYTES), UART_DONE);
     s.baud.divisor = 0;
     s.baud.k = 0;
     ANSWERS(uart_forecast(s), UART_NO_CLOCK);

@@ -1,6 +1,6 @@
 """Sends a message, clears the transmit FIFO in the middle of a character, and prints what left the
 line: the character that had begun is finished, as the part finishes it. Then replays a capture of
-the same, from records and from a file."""
+the same, from records and from a file, and writes the one that is expected where a read differs."""
 import io
 import struct
 
@@ -76,10 +76,34 @@ def print_progress(records, read, total):
     print(f"file: {records} records, {read} of {total} bytes")
 
 
-def print_file(records):
-    """Replays the same as a file: the header (mark, version, pad), then each record, little-endian."""
-    file = io.BytesIO(struct.pack(f"<4sHH{len(records)}I", b"UTR", 1, 0, *records))
+def file_of(records):
+    """The same as a file: the header (mark, version, pad), then each record, little-endian."""
+    return io.BytesIO(struct.pack(f"<4sHH{len(records)}I", b"UTR", 1, 0, *records))
+
+
+def print_file(file):
+    """Replays a file."""
     print_outcome("file", lambda: Uart().replay_file(file, print_progress))
+
+
+def print_expected(records):
+    """Writes the capture that is expected for these records from the fresh state, and replays it."""
+    try:
+        words = Uart().expect(1, records)
+    except Refused as refusal:
+        print(f"expected: refused {refusal.number}, {refusal.place} records written")
+        return
+    print(f"expected: {len(words)} records, the last is {words[-1]:08X}")
+    print_replay(words)
+
+
+def print_expected_file(file):
+    """The same from a file into another one."""
+    expected = io.BytesIO()
+    count = Uart().expect_file(file, expected)
+    print(f"expected file: number 0, {count} records")
+    expected.seek(0)
+    print_file(expected)
 
 
 def replay_captures():
@@ -95,11 +119,14 @@ def replay_captures():
         0x10000520,  # LSR: 20 seen
     ]
     print_replay(records)
-    print_file(records)
+    print_file(file_of(records))
     records[7] = 0x10000560  # LSR: 60 seen
     print_forecast(print_replay(records))
+    print_expected(records)
+    print_expected_file(file_of(records))
     records[5] = 0x60000000  # of no kind
     print_replay(records)
+    print_expected(records)
 
 
 def main():

@@ -4,9 +4,11 @@ import ctypes
 import unittest
 
 from tl16c750 import BAD_RECORD, LSR, MALFORMED, RBR, UNKNOWN_VERSION, Refused, Uart
-from tl16c750.library import library
+from tl16c750.library import MEASURED, library, name_of
 from tl16c750.structs import (
     Answer,
+    Expected,
+    ExpectProgress,
     Forecasted,
     Leveled,
     Looked,
@@ -72,14 +74,23 @@ SPECIMENS = {
         "state": STATE,
     },
     Picked: {"number": 100, "divisor": four(114), "error": four(115)},
+    Expected: {"number": 100, "part": 113, "count": eight(116), "state": STATE},
+    ExpectProgress: {
+        "number": 100,
+        "part": 113,
+        "version": four(110),
+        "count": eight(116),
+        "state": STATE,
+    },
 }
 
 
 class Layout(unittest.TestCase):
     def test_sizes_and_specimens(self):
         sizes = library.uart_sizes_of_structs()
+        self.assertEqual(set(SPECIMENS), set(MEASURED))
         for struct, expected in SPECIMENS.items():
-            name = struct.__name__.lower()
+            name = name_of(struct)
             with self.subTest(name):
                 self.assertEqual(getattr(sizes, name), ctypes.sizeof(struct))
                 self.assertEqual(named(getattr(library, "uart_specimen_" + name)()), expected)

@@ -10,10 +10,15 @@
     >>> divisor_for(3_072_000, 7200)
     Picked(divisor=27, error=-12345)
 
+    >>> words = Uart().expect(1, [0x2000075A, 0x100007FF])  # SCR: 5A written, FF seen
+    >>> [f"{word:08X}" for word in words]
+    ['2000075A', '1000075A']
+
 A call that is refused raises Refused, whose number is that of the table in document 01, and whose part
-says what of a malformed state is bad; the state is then as it was, or, where a replay meets a bad record,
-that before it. replay_file starts from the fresh state, which is then also that after a refused header.
-Ctrl-C stops a long tick, run or replay within a second; the state is then as it was before the call.
+says what of a malformed state is bad; the state is then as it was, or, where a replay or an expected
+capture comes to a bad record, that before it. replay_file and expect_file start from the fresh state,
+which is then also that after a refused header. Ctrl-C stops a long call within a second; the state is
+then as it was before the call.
 """
 from .structs import (
     PLACES,
@@ -54,6 +59,7 @@ from .uart import (
     MCR,
     MSR,
     NO_CLOCK,
+    NO_ROOM,
     RBR,
     SCR,
     THR,
@@ -89,6 +95,7 @@ __all__ = [
     "MCR",
     "MSR",
     "NO_CLOCK",
+    "NO_ROOM",
     "PLACES",
     "RBR",
     "SCR",

@@ -3,12 +3,15 @@ from __future__ import annotations
 
 import ctypes
 import os
+import re
 from ctypes import POINTER, c_char_p, c_size_t, c_uint8, c_uint32
 from pathlib import Path
 from typing import Any
 
 from .structs import (
     Answer,
+    Expected,
+    ExpectProgress,
     Forecasted,
     Leveled,
     Looked,
@@ -18,10 +21,11 @@ from .structs import (
     Replayed,
     Sizes,
     State,
+    Struct,
     Versions,
 )
 
-LAYOUT = 4
+LAYOUT = 5
 """The layout of the structs that this package is written for."""
 
 _CALLS: dict[str, tuple[Any, ...]] = {
@@ -43,11 +47,35 @@ _CALLS: dict[str, tuple[Any, ...]] = {
     "replay_begin": (Progress, c_char_p, c_size_t),
     "replay_more": (Progress, Progress, c_char_p, c_size_t),
     "replay_end": (Replayed, Progress, c_char_p, c_size_t),
+    "expect": (Expected, State, c_uint32, POINTER(c_uint32), c_size_t, POINTER(c_uint32), c_size_t),
+    "expect_begin": (ExpectProgress, c_char_p, c_size_t),
+    "expect_more": (ExpectProgress, ExpectProgress, POINTER(c_uint8), c_size_t),
+    "expect_end": (ExpectProgress, ExpectProgress, POINTER(c_uint8), c_size_t),
     "sizes_of_structs": (Sizes,),
 }
 
-for _struct in (State, Answer, Looked, Forecasted, Leveled, Ran, Replayed, Progress, Picked):
-    _CALLS["specimen_" + _struct.__name__.lower()] = (_struct,)
+MEASURED: tuple[type[Struct], ...] = (
+    State,
+    Answer,
+    Looked,
+    Forecasted,
+    Leveled,
+    Ran,
+    Replayed,
+    Progress,
+    Picked,
+    Expected,
+    ExpectProgress,
+)
+"""The structs of which the library tells the size and has a specimen."""
+
+
+def name_of(struct: type[Struct]) -> str:
+    """The name of a struct in the library's calls."""
+    return re.sub("(?<=[a-z])(?=[A-Z])", "_", struct.__name__).lower()
+
+
+_CALLS.update(("specimen_" + name_of(struct), (struct,)) for struct in MEASURED)
 
 
 def _path() -> Path:

@@ -427,6 +427,28 @@ class Progress(Struct):
 
 
 @_struct
+class Expected(Struct):
+    """What the writer of a capture answers: the words written, and the state after these records."""
+
+    number: U8
+    part: U8
+    count: Size
+    state: State
+
+
+@_struct
+class ExpectProgress(Struct):
+    """Where a file that is written anew stands: the number of a refusal (0: going on), its version, the
+    records that the last call wrote, the state."""
+
+    number: U8
+    part: U8
+    version: U32
+    count: Size
+    state: State
+
+
+@_struct
 class Picked(Struct):
     """What the call for a divisor answers: the divisor, and its error in parts per million."""
 
@@ -448,6 +470,8 @@ class Sizes(Struct):
     replayed: U32
     progress: U32
     picked: U32
+    expected: U32
+    expect_progress: U32
 
 
 @_struct

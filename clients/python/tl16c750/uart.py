@@ -2,6 +2,7 @@
 from __future__ import annotations
 
 import array
+import contextlib
 import ctypes
 import io
 import itertools
@@ -21,7 +22,7 @@ IIR = FCR = 2
 LCR, MCR, LSR, MSR, SCR = 3, 4, 5, 6, 7
 
 MALFORMED, BAD_ADDRESS, BAD_LEVEL, NO_CLOCK, HELD_BACK = 1, 2, 3, 4, 5
-BAD_HEADER, UNKNOWN_VERSION, BAD_RECORD, BAD_RATE = 6, 7, 8, 9
+BAD_HEADER, UNKNOWN_VERSION, BAD_RECORD, BAD_RATE, NO_ROOM = 6, 7, 8, 9, 16
 
 # The parts of a state: registers and baud; fifo and inputs; tx and frame; rx, receiver and kept; latches.
 IN_REGISTERS, IN_SETTINGS, IN_TRANSMITTER, IN_RECEIVER, IN_LATCHES = 1, 2, 3, 4, 5
@@ -36,6 +37,7 @@ _WHY = {
     UNKNOWN_VERSION: "unknown version of a capture",
     BAD_RECORD: "record of bad kind, with stray bits, or cut off",
     BAD_RATE: "clock not from 1 to 16000000, or rate not from 1 to 1000000",
+    NO_ROOM: "no word left for a record of the expected capture",
 }
 
 _WHERE = {
@@ -60,11 +62,14 @@ _BLOCK_BYTES = 32 * _PIECE_BYTES
 Told = Callable[[int, int, Optional[int]], object]
 """What is told of a file: the records done, the bytes read, and of how many (None: not known)."""
 
+Capture = Union[str, os.PathLike[str], IO[bytes]]
+"""A capture's file: a path, or a file open for bytes."""
+
 
 class Refused(Exception):
-    """A refusal, by its number; of a replay with the record's place; of a malformed state with the part
-    of it that is bad: the lowest one that breaks a range. A range that joins two parts counts for the
-    later one."""
+    """A refusal, by its number; of a replay or an expected capture with the record's place; of a malformed
+    state with the part of it that is bad: the lowest one that breaks a range. A range that joins two parts
+    counts for the later one."""
 
     number: int
     place: Optional[int]
@@ -138,9 +143,18 @@ def _difference(values: Values, before: int = 0) -> Optional[Difference]:
     return Difference(before + values.place, values.seen, values.model)
 
 
+def _written(answer: Any, count: int) -> int:
+    """How many records were written in all, unless the one behind them is refused."""
+    if answer.number:
+        raise Refused(answer.number, count, answer.part or None)
+    return count
+
+
 def _no_records(what: str) -> TypeError:
     """The error where a capture's file, or something of it, is given for records."""
-    return TypeError(f"records are numbers of 32 bits, not {what}: replay_file takes a capture's file")
+    return TypeError(
+        f"records are numbers of 32 bits, not {what}: replay_file and expect_file take a capture's file"
+    )
 
 
 def _word(record: Any) -> int:
@@ -180,9 +194,23 @@ def _pieces(records: Any) -> Iterator[Any]:
         raise _no_records(f"{view.itemsize} bytes each")
     if view.ndim != 1:
         raise TypeError(f"records stand in one dimension, not in {view.ndim}")
-    if view.itemsize == 4 and view.format.lstrip("@=<") in ("I", "L"):
-        return _words(view)
-    return _numbers(records)
+    return _words(view) if _has_words(view) else _numbers(records)
+
+
+def _has_words(view: memoryview) -> bool:
+    """Whether these are unsigned words of 32 bits."""
+    return view.itemsize == 4 and view.format.lstrip("@=<") in ("I", "L")
+
+
+def _lent(words: Any) -> memoryview:
+    """The bytes of a run of words that is lent to be written to."""
+    try:
+        view = memoryview(words)
+    except TypeError:
+        raise TypeError(f"words are lent as a buffer, not as {type(words).__name__}") from None
+    if view.readonly or view.ndim != 1 or not view.c_contiguous or not _has_words(view):
+        raise TypeError("words are lent as a buffer of 32-bit words that can be written, as array('I')")
+    return view.cast("B")
 
 
 def _read_full(file: IO[bytes], count: int) -> bytes:
@@ -191,7 +219,7 @@ def _read_full(file: IO[bytes], count: int) -> bytes:
     while count > 0:
         part = file.read(count)
         if part is None:
-            raise BlockingIOError("the capture has no bytes ready: replay_file needs a blocking file")
+            raise BlockingIOError("the capture has no bytes ready: it has to be a blocking file")
         if not isinstance(part, bytes):
             raise TypeError("a capture's file is opened for bytes: open(path, 'rb')")
         if len(part) > count:
@@ -201,6 +229,64 @@ def _read_full(file: IO[bytes], count: int) -> bytes:
         parts.append(part)
         count -= len(part)
     return b"".join(parts)
+
+
+def _write_full(file: IO[bytes], part: bytes | memoryview) -> None:
+    """Writes all of the bytes; a file without a buffer takes some of them at a time."""
+    while part:
+        taken = file.write(part)
+        if taken is None:
+            raise BlockingIOError("the file takes no bytes now: it has to be a blocking file")
+        part = part[taken:]
+
+
+@contextlib.contextmanager
+def _source(file: Capture) -> Iterator[IO[bytes]]:
+    """The capture's file, open for bytes."""
+    if isinstance(file, (str, os.PathLike)):
+        with open(file, "rb") as opened:
+            yield opened
+    elif hasattr(file, "read"):
+        yield file
+    else:
+        raise TypeError(
+            f"a capture's file is a path or a file open for bytes, not {type(file).__name__};"
+            " io.BytesIO makes one of bytes"
+        )
+
+
+def _same_file(file: IO[bytes], path: Union[str, os.PathLike[str]]) -> bool:
+    """Whether an open file is the one of the path."""
+    try:
+        return os.path.samestat(os.fstat(file.fileno()), os.stat(path))
+    except (AttributeError, OSError):
+        return False
+
+
+def _check_target(file: Capture, source: IO[bytes]) -> None:
+    """Refuses what takes no bytes, and the file that is read, which would be cut off."""
+    if isinstance(file, (str, os.PathLike)):
+        same = _same_file(source, file)
+    elif isinstance(file, io.TextIOBase) or not hasattr(file, "write"):
+        raise TypeError(
+            f"an expected capture is written to a path or a file open for bytes, not {type(file).__name__}"
+        )
+    else:
+        same = file is source
+    if same:
+        raise ValueError("a capture is not written over the file from which it is read")
+
+
+@contextlib.contextmanager
+def _target(file: Capture) -> Iterator[IO[bytes]]:
+    """The file to be written, open for bytes."""
+    if isinstance(file, (str, os.PathLike)):
+        with open(file, "wb") as opened:
+            yield opened
+    else:
+        yield file
+        if hasattr(file, "flush"):
+            file.flush()
 
 
 def _bytes_left(file: IO[bytes]) -> Optional[int]:
@@ -235,6 +321,46 @@ def _replay_stream(file: IO[bytes], progress: Optional[Told]) -> Any:
     if progress:
         progress(stands.done if _agreed(replayed.values) else replayed.values.place, read, total)
     return replayed
+
+
+def _expect_block(stands: Any, block: bytearray) -> tuple[Any, int]:
+    """Writes the whole records of a block anew, in place: where the file then stands, and how many. It
+    ends with a block that is not full."""
+    count = 0
+    for start in range(0, len(block), _PIECE_BYTES):
+        size = min(_PIECE_BYTES, len(block) - start)
+        piece = (ctypes.c_uint8 * size).from_buffer(block, start)
+        stands = library.uart_expect_more(stands, piece, size)
+        count += stands.count
+    if len(block) < _BLOCK_BYTES:
+        left = block[len(block) - len(block) % 4 :]
+        stands = library.uart_expect_end(stands, (ctypes.c_uint8 * len(left)).from_buffer(left), len(left))
+    return stands, count
+
+
+def _expect_stream(file: IO[bytes], target: Capture, progress: Optional[Told]) -> tuple[Any, int]:
+    """The library's answer for a capture's file that is written anew, a block at a time, and how many
+    records were written."""
+    total = _bytes_left(file) if progress else None
+    header = _read_full(file, _HEADER_BYTES)
+    read, count = len(header), 0
+    stands = library.uart_expect_begin(header, len(header))
+    if not stands.number:
+        with _target(target) as to:
+            _write_full(to, header)
+            full = True
+            while full and not stands.number:
+                if progress and count:
+                    progress(count, read, total)
+                block = bytearray(_read_full(file, _BLOCK_BYTES))
+                full = len(block) == _BLOCK_BYTES
+                read += len(block)
+                stands, written = _expect_block(stands, block)
+                count += written
+                _write_full(to, memoryview(block)[: 4 * written])
+    if progress:
+        progress(count, read, total)
+    return stands, count
 
 
 class Uart:
@@ -362,9 +488,7 @@ class Uart:
         self._state = state
         return _difference(values, before)
 
-    def replay_file(
-        self, file: Union[str, os.PathLike[str], IO[bytes]], progress: Optional[Told] = None
-    ) -> Optional[Difference]:
+    def replay_file(self, file: Capture, progress: Optional[Told] = None) -> Optional[Difference]:
         """A replay of a capture's file, a path or a file open for bytes, from the fresh state, whatever
         this one is: None where all reads agree, else the Difference. The state is then the end state,
         or that before the read or the bad record, the fresh one where the header is refused. It is
@@ -372,18 +496,66 @@ class Uart:
 
         The file is read a block at a time; `progress`, where given, is told after each, and at the
         end, where the records done are those before the place at which it stopped."""
-        if isinstance(file, (str, os.PathLike)):
-            with open(file, "rb") as opened:
-                replayed = _replay_stream(opened, progress)
-        elif hasattr(file, "read"):
-            replayed = _replay_stream(file, progress)
-        else:
-            raise TypeError(
-                f"a capture's file is a path or a file open for bytes, not {type(file).__name__};"
-                " io.BytesIO makes one of bytes"
-            )
+        with _source(file) as opened:
+            replayed = _replay_stream(opened, progress)
         self._state = replayed.state
         return _difference(replayed.values)
+
+    def _expect(self, version: int, records: Iterable[int], room: Optional[int]) -> tuple[Any, Any]:
+        """The words written, of which there is room for so many, and the library's last answer."""
+        version = fits(version, 32, "a version")
+        state = self._state
+        words = array.array("I")
+        for piece in itertools.chain([_NONE], _pieces(records)):
+            most = len(piece) if room is None else min(len(piece), room - len(words))
+            run = (ctypes.c_uint32 * most)()
+            answer = library.uart_expect(state, version, piece, len(piece), run, most)
+            words.frombytes(memoryview(run).cast("B")[: 4 * answer.count])
+            state = answer.state
+            if answer.number:
+                break
+        return words, answer
+
+    def expect(self, version: int, records: Iterable[int]) -> array.array[int]:
+        """The capture that is expected of an undisturbed chip in this state: each record as it stands,
+        but a read with the model's byte, as an array of 32-bit words. The state is then the end state.
+        A replay of the words from the state before agrees, and ends in the same state.
+
+        The records are those that replay takes. A bad one is refused with its place, and the state is
+        then that before it; expect_into keeps what was written up to there."""
+        words, answer = self._expect(version, records, None)
+        self._state = answer.state
+        _written(answer, len(words))
+        return words
+
+    def expect_into(self, version: int, records: Iterable[int], words: Any) -> int:
+        """The same, written into the first words of a buffer of 32-bit words, as array('I') or numpy's
+        uint32: how many. Those beyond stay as they were. A record for which no word is left is refused
+        with NO_ROOM. Where a record is refused, its place is the number of words written.
+
+        The words are written at the end of the work: where it is broken off, they are as they were."""
+        lent = _lent(words)
+        written, answer = self._expect(version, records, len(lent) // 4)
+        lent[: 4 * len(written)] = written.tobytes()
+        self._state = answer.state
+        return _written(answer, len(written))
+
+    def expect_file(self, source: Capture, target: Capture, progress: Optional[Told] = None) -> int:
+        """Writes the file that is expected of a capture's file, from the fresh state, whatever this one
+        is: how many records. Each is a path or a file open for bytes. The state is then the end state.
+
+        A bad record is refused with its place; what stands before it is then written, and the state is
+        that before it. Where the header is refused nothing is written, a path is not opened, and the
+        state is the fresh one. Where reading or writing fails, or the work is broken off, the state is
+        as it was, and a part of the target may be written.
+
+        The file is read a block at a time; `progress`, where given, is told after each, and at the
+        end, where the records done are those written."""
+        with _source(source) as opened:
+            _check_target(target, opened)
+            stands, count = _expect_stream(opened, target, progress)
+        self._state = stands.state
+        return _written(stands, count)
 
     @property
     def pins(self) -> Outputs:

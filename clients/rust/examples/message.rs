@@ -1,8 +1,8 @@
 // Sends a message, clears the transmit FIFO in the middle of a character, and prints what left the
 // line: the character that had begun is finished, as the part finishes it. Then replays a capture of
-// the same, from records and from a file.
+// the same, from records and from a file, and writes the one that is expected where a read differs.
 use std::error::Error;
-use tl16c750::{divisor_for, Picked, Refusal, Told, Uart, DLL, DLM, FCR, LCR, LSR, THR};
+use tl16c750::{divisor_for, Expected, Picked, Refusal, Told, Uart, DLL, DLM, FCR, LCR, LSR, THR};
 
 const PULSES_PER_BIT: usize = 16; // and a tick is a pulse: the divisor is 1
 const BITS_PER_FRAME: usize = 10; // start, eight data bits, stop
@@ -65,19 +65,48 @@ fn print_replay(records: &[u32]) -> Uart {
     uart
 }
 
-// Replays the same as a file: the header (mark, version, pad), then each record, little-endian.
-fn print_file(records: &[u32]) -> std::io::Result<()> {
+// The same as a file: the header (mark, version, pad), then each record, little-endian.
+fn file_of(records: &[u32]) -> Vec<u8> {
     let mut file = b"UTR\0\x01\0\0\0".to_vec();
     for record in records {
         file.extend_from_slice(&record.to_le_bytes());
     }
+    file
+}
+
+// Replays a file.
+fn print_file(file: &[u8]) -> std::io::Result<()> {
     let length = file.len() as u64;
-    let outcome = Uart::fresh().replay_file_telling(&file[..], Some(length), |told| {
+    let outcome = Uart::fresh().replay_file_telling(file, Some(length), |told| {
         let Told { records, bytes, .. } = told;
         println!("file: {records} records, {bytes} of {length} bytes");
     })?;
     println!("file: {outcome}");
     Ok(())
+}
+
+// Writes the capture that is expected for these records from the fresh state, and replays it.
+fn print_expected(records: &[u32]) {
+    let mut words = vec![0; records.len()];
+    let Expected { count, refusal } = Uart::fresh().expect(1, records, &mut words);
+    if let Some(Refusal { number, .. }) = refusal {
+        println!("expected: refused {number}, {count} records written");
+        return;
+    }
+    println!(
+        "expected: {count} records, the last is {:08X}",
+        words[count - 1]
+    );
+    print_replay(&words);
+}
+
+// The same from a file into another one.
+fn print_expected_file(file: &[u8]) -> std::io::Result<()> {
+    let mut expected = Vec::new();
+    let Expected { count, refusal } = Uart::fresh().expect_file(file, &mut expected)?;
+    let number = refusal.map_or(0, |refusal| refusal.number);
+    println!("expected file: number {number}, {count} records");
+    print_file(&expected)
 }
 
 // A character is on the line when the transmit FIFO is cleared; LSR is read then.
@@ -93,11 +122,14 @@ fn replay_captures() -> std::io::Result<()> {
         0x10000520, // LSR: 20 seen
     ];
     print_replay(&records);
-    print_file(&records)?;
+    print_file(&file_of(&records))?;
     records[7] = 0x10000560; // LSR: 60 seen
     print_forecast(&print_replay(&records));
+    print_expected(&records);
+    print_expected_file(&file_of(&records))?;
     records[5] = 0x60000000; // of no kind
     print_replay(&records);
+    print_expected(&records);
     Ok(())
 }
 

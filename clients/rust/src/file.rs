@@ -61,36 +61,9 @@ impl File {
 #[cfg(feature = "std")]
 mod read {
     use super::File;
+    use crate::blocks::{Blocks, Told};
     use crate::{Outcome, Uart};
-    use std::io::{ErrorKind, Read, Result};
-
-    /// The bytes of a file's header.
-    const HEADER: usize = 8;
-
-    /// What is told of a file after each block of it.
-    #[derive(Clone, Copy, Debug, PartialEq, Eq, Hash)]
-    pub struct Told {
-        /// The records done.
-        pub records: usize,
-        /// The bytes read.
-        pub bytes: u64,
-        /// Of how many, where that is known.
-        pub of: Option<u64>,
-    }
-
-    /// Reads until the block is full or the file ends.
-    fn fill(file: &mut impl Read, block: &mut [u8]) -> Result<usize> {
-        let mut used = 0;
-        while used < block.len() {
-            match file.read(&mut block[used..]) {
-                Ok(0) => break,
-                Ok(n) => used += n,
-                Err(error) if error.kind() == ErrorKind::Interrupted => {}
-                Err(error) => return Err(error),
-            }
-        }
-        Ok(used)
-    }
+    use std::io::{Read, Result};
 
     impl Uart {
         /// A replay of a capture's file from the fresh state, whatever this one is. The state is then
@@ -107,35 +80,23 @@ mod read {
         /// the caller knows it.
         pub fn replay_file_telling(
             &mut self,
-            mut file: impl Read,
+            file: impl Read,
             of: Option<u64>,
             mut progress: impl FnMut(Told),
         ) -> Result<Outcome> {
-            let mut block = [0; 16384];
-            let header = fill(&mut file, &mut block[..HEADER])?;
-            let mut replay = File::begin(&block[..header]);
-            let mut bytes = header as u64;
-            let mut left = &block[..0];
-            while !replay.stopped() {
-                let used = fill(&mut file, &mut block)?;
-                left = replay.more(&block[..used]);
-                bytes += used as u64;
-                if used < block.len() {
-                    break;
-                }
+            let mut blocks = Blocks::new(file, of);
+            let mut replay = File::begin(blocks.header()?);
+            while !replay.stopped() && blocks.full()? {
+                replay.more(blocks.bytes());
                 if !replay.stopped() {
-                    let records = replay.records();
-                    progress(Told { records, bytes, of });
+                    progress(blocks.told(replay.records()));
                 }
             }
-            let (outcome, uart) = replay.end(left);
-            let records = outcome.place().unwrap_or(replay.records());
-            progress(Told { records, bytes, of });
+            let (outcome, uart) = replay.end(blocks.bytes());
+            let all = replay.records() + blocks.bytes().len() / 4;
+            progress(blocks.told(outcome.place().unwrap_or(all)));
             *self = uart;
             Ok(outcome)
         }
     }
 }
-
-#[cfg(feature = "std")]
-pub use read::Told;

@@ -8,8 +8,9 @@
 //! # Ok::<(), tl16c750::Refusal>(())
 //! ```
 //!
-//! The crate is `no_std`; its feature `std`, on unless it is turned off, adds `Uart::replay_file` over
-//! `std::io::Read`. Without it a file is replayed by [`File`].
+//! The crate is `no_std`; its feature `std`, on unless it is turned off, adds `Uart::replay_file` and
+//! `Uart::expect_file` over `std::io`. Without it a file is replayed by [`File`], and written anew by
+//! [`ExpectedFile`].
 
 #![no_std]
 #![deny(missing_docs)]
@@ -19,12 +20,16 @@ extern crate std;
 
 use core::fmt;
 
+#[cfg(feature = "std")]
+mod blocks;
+mod expected;
 mod file;
 pub mod raw;
 
-pub use file::File;
 #[cfg(feature = "std")]
-pub use file::Told;
+pub use blocks::Told;
+pub use expected::{Expected, ExpectedFile};
+pub use file::File;
 
 pub use raw::{
     Baud, ByteQueue, Entry, EntryQueue, Errors, FifoControl, Frame, Inputs, Latches, Outputs,
@@ -98,7 +103,7 @@ impl fmt::Display for StatePart {
     }
 }
 
-/// A refusal. The state is as it was; of a replay see [`Outcome`].
+/// A refusal. The state is as it was; of a replay see [`Outcome`], of an expected capture [`Expected`].
 #[derive(Clone, Copy, Debug, PartialEq, Eq, Hash)]
 pub struct Refusal {
     /// Its number.
@@ -124,6 +129,8 @@ impl Refusal {
     pub const BAD_RECORD: Refusal = Refusal::numbered(8);
     /// A clock or rate outside its range.
     pub const BAD_RATE: Refusal = Refusal::numbered(9);
+    /// Of an expected capture: no word left for a record.
+    pub const NO_ROOM: Refusal = Refusal::numbered(16);
 
     /// Number 1: the state is not well formed, and this part of it is bad.
     pub const fn malformed(part: StatePart) -> Refusal {
@@ -148,6 +155,7 @@ impl fmt::Display for Refusal {
             Refusal::UNKNOWN_VERSION => "unknown version of a capture",
             Refusal::BAD_RECORD => "record of bad kind, with stray bits, or cut off",
             Refusal::BAD_RATE => "clock not from 1 to 16000000, or rate not from 1 to 1000000",
+            Refusal::NO_ROOM => "no word left for a record of the expected capture",
             _ => "refused",
         };
         let number = self.number;

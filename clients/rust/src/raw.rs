@@ -298,6 +298,36 @@ pub struct Progress {
     pub state: State,
 }
 
+/// What the writer of a capture answers.
+#[repr(C)]
+#[derive(Clone, Copy, Debug, PartialEq, Eq, Hash)]
+pub struct Expected {
+    /// 0, or the number of a refusal.
+    pub number: u8,
+    /// The part of the state that is bad; 0 with another number than 1.
+    pub part: u8,
+    /// The words written.
+    pub count: usize,
+    /// The state after these records.
+    pub state: State,
+}
+
+/// Where a file that is written anew stands.
+#[repr(C)]
+#[derive(Clone, Copy, Debug, PartialEq, Eq, Hash)]
+pub struct ExpectProgress {
+    /// 0 nothing so far, or the number of a refusal.
+    pub number: u8,
+    /// The part of the state that is bad; 0 with another number than 1.
+    pub part: u8,
+    /// The version in its header.
+    pub version: u32,
+    /// The records that the last call wrote.
+    pub count: usize,
+    /// The state.
+    pub state: State,
+}
+
 /// What the call for a divisor answers.
 #[repr(C)]
 #[derive(Clone, Copy, Debug, PartialEq, Eq, Hash)]
@@ -325,7 +355,7 @@ pub struct Versions {
 }
 
 /// The layout of the structs that this crate is written for.
-pub const LAYOUT: u32 = 4;
+pub const LAYOUT: u32 = 5;
 
 /// The library's own size of each struct, in bytes.
 #[repr(C)]
@@ -349,6 +379,10 @@ pub struct Sizes {
     pub progress: u32,
     /// Of [`Picked`].
     pub picked: u32,
+    /// Of [`Expected`].
+    pub expected: u32,
+    /// Of [`ExpectProgress`].
+    pub expect_progress: u32,
 }
 
 // SAFETY: the signatures are those of crates/export, and no safe call has a condition on what it is
@@ -407,6 +441,42 @@ unsafe extern "C" {
     /// # Safety
     /// `count` bytes can be read at `bytes`.
     pub unsafe fn uart_replay_end(p: Progress, bytes: *const u8, count: usize) -> Replayed;
+    /// The records that are expected, written into a second run of words.
+    ///
+    /// # Safety
+    /// `count` words can be read at `records`, `room` words can be read and written at `words`, and the
+    /// two runs do not overlap.
+    pub unsafe fn uart_expect(
+        s: State,
+        version: u32,
+        records: *const u32,
+        count: usize,
+        words: *mut u32,
+        room: usize,
+    ) -> Expected;
+    /// A file to be written anew that begins with these bytes, whose header is the first 8.
+    ///
+    /// # Safety
+    /// `count` bytes can be read at `first`.
+    pub unsafe fn uart_expect_begin(first: *const u8, count: usize) -> ExpectProgress;
+    /// The bytes that come next, written anew in place.
+    ///
+    /// # Safety
+    /// `count` bytes can be read and written at `bytes`.
+    pub unsafe fn uart_expect_more(
+        p: ExpectProgress,
+        bytes: *mut u8,
+        count: usize,
+    ) -> ExpectProgress;
+    /// The last bytes, written anew in place.
+    ///
+    /// # Safety
+    /// `count` bytes can be read and written at `bytes`.
+    pub unsafe fn uart_expect_end(
+        p: ExpectProgress,
+        bytes: *mut u8,
+        count: usize,
+    ) -> ExpectProgress;
 
     /// The library's own sizes.
     pub safe fn uart_sizes_of_structs() -> Sizes;
@@ -428,4 +498,8 @@ unsafe extern "C" {
     pub safe fn uart_specimen_progress() -> Progress;
     /// A specimen of [`Picked`]: every byte of a field is the field's number.
     pub safe fn uart_specimen_picked() -> Picked;
+    /// A specimen of [`Expected`]: every byte of a field is the field's number.
+    pub safe fn uart_specimen_expected() -> Expected;
+    /// A specimen of [`ExpectProgress`]: every byte of a field is the field's number.
+    pub safe fn uart_specimen_expect_progress() -> ExpectProgress;
 }

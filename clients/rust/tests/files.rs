@@ -2,43 +2,18 @@
 // prints; states as keys.
 #![cfg(feature = "std")]
 
+mod common;
+
+use common::{captures, stored, Broken, Pieces};
 use std::collections::HashSet;
-use std::io::{Error, Read, Result};
-use std::{fs, path::Path};
+use std::fs;
+use std::io::Result;
 use tl16c750::{File, Outcome, Told, Uart, LCR};
-
-// A file that gives a few bytes at a time.
-struct Pieces<'a> {
-    bytes: &'a [u8],
-    size: usize,
-}
-
-impl Read for Pieces<'_> {
-    fn read(&mut self, room: &mut [u8]) -> Result<usize> {
-        let n = self.size.min(room.len()).min(self.bytes.len());
-        let (piece, rest) = self.bytes.split_at(n);
-        room[..n].copy_from_slice(piece);
-        self.bytes = rest;
-        Ok(n)
-    }
-}
-
-struct Broken;
-
-impl Read for Broken {
-    fn read(&mut self, _: &mut [u8]) -> Result<usize> {
-        Err(Error::other("broken"))
-    }
-}
 
 #[test]
 fn stored_captures_end_as_they_must() -> Result<()> {
-    let stored = Path::new(env!("CARGO_MANIFEST_DIR")).join("../../crates/replay_stored");
-    let mut files: Vec<_> = fs::read_dir(stored.join("data"))?
-        .map(|entry| entry.map(|e| e.path()))
-        .collect::<Result<_>>()?;
-    files.retain(|path| path.file_name().is_some_and(|name| name.len() == 3));
-    files.sort();
+    let stored = stored();
+    let files = captures()?;
     let mut lines = String::new();
     for (number, path) in files.iter().enumerate() {
         let bytes = fs::read(path)?;

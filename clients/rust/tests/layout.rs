@@ -164,6 +164,25 @@ fn fields_lie_as_in_the_specimens() {
             error: four(115) as i32
         }
     );
+    assert_eq!(
+        uart_specimen_expected(),
+        Expected {
+            number: 100,
+            part: 113,
+            count: eight(116),
+            state: state()
+        }
+    );
+    assert_eq!(
+        uart_specimen_expect_progress(),
+        ExpectProgress {
+            number: 100,
+            part: 113,
+            version: four(110),
+            count: eight(116),
+            state: state()
+        }
+    );
 }
 
 #[test]
@@ -178,6 +197,8 @@ fn sizes_are_the_librarys() {
     assert_eq!(sizes.replayed as usize, size_of::<Replayed>());
     assert_eq!(sizes.progress as usize, size_of::<Progress>());
     assert_eq!(sizes.picked as usize, size_of::<Picked>());
+    assert_eq!(sizes.expected as usize, size_of::<Expected>());
+    assert_eq!(sizes.expect_progress as usize, size_of::<ExpectProgress>());
 }
 
 #[test]

@@ -1,6 +1,8 @@
 // A malformed state is refused by every call with the part of it that is bad; no other refusal has one.
 // What refusals print.
-use tl16c750::{File, Outcome, Refusal, StatePart, Uart, DLL, FCR, LCR, MCR, THR};
+use tl16c750::{
+    Expected, ExpectedFile, File, Outcome, Refusal, StatePart, Uart, DLL, FCR, LCR, MCR, THR,
+};
 
 // With FIFO on, autoflow, a byte on the line and another held back.
 fn busy() -> Uart {
@@ -53,6 +55,9 @@ fn every_call_tells_the_part() {
         assert_eq!(uart.run(1000), Err(refusal));
         let refused = Outcome::Refused { refusal, place: 0 };
         assert_eq!(uart.replay(1, &[1]), refused);
+        let (count, refusal) = (0, Some(refusal));
+        let refused = Expected { count, refusal };
+        assert_eq!(uart.expect(0, &[u32::MAX], &mut []), refused);
         assert_eq!(uart, before);
     }
 }
@@ -98,6 +103,21 @@ fn other_refusals_have_no_part() {
     assert_eq!(uart.replay(1, &[1 << 31]), refused(Refusal::BAD_RECORD));
     let (outcome, _) = File::begin(b"UTX\0\x01\0\0\0").end(&[]);
     assert_eq!(outcome, refused(Refusal::BAD_HEADER));
+    let refused = |refusal| Expected {
+        count: 0,
+        refusal: Some(refusal),
+    };
+    assert_eq!(
+        uart.expect(2, &[], &mut []),
+        refused(Refusal::UNKNOWN_VERSION)
+    );
+    assert_eq!(
+        uart.expect(1, &[1 << 31], &mut []),
+        refused(Refusal::BAD_RECORD)
+    );
+    assert_eq!(uart.expect(1, &[1], &mut []), refused(Refusal::NO_ROOM));
+    let (_, expected, _) = ExpectedFile::begin(b"UTX\0\x01\0\0\0").0.end(&mut []);
+    assert_eq!(expected, refused(Refusal::BAD_HEADER));
 }
 
 #[test]
@@ -106,6 +126,8 @@ fn refusals_print_words() {
     assert_eq!(Refusal::UNKNOWN_VERSION.to_string(), words);
     let words = "clock not from 1 to 16000000, or rate not from 1 to 1000000 (number 9)";
     assert_eq!(Refusal::BAD_RATE.to_string(), words);
+    let words = "no word left for a record of the expected capture (number 16)";
+    assert_eq!(Refusal::NO_ROOM.to_string(), words);
     let words = "the state is not well formed: transmit queue and frame (number 1, part 3)";
     let refusal = Refusal::malformed(StatePart::Transmitter);
     assert_eq!(refusal.to_string(), words);
