@@ -1,8 +1,10 @@
-"""The captures that both programs `replay` are measured on, and their measuring.
+"""The captures that both programs `replay` and both programs `expect` are measured on, and their
+measuring.
 
 Each capture repeats a block of records that begins with a reset and sets everything up, so that the
 block can follow itself. The second program's `calls` answers its reads.
 """
+import filecmp
 import os
 import random
 import resource
@@ -78,10 +80,10 @@ def mixed(q, rng):
 
 # Name, unit, block, about how many records in all.
 CASES = (
-    ("replay, bus-heavy", "record", bus_heavy, 10_000_000),
-    ("replay, ticks at divisor 1", "tick", ticking(1, 10, 1, 300, 3000), 400_000),
-    ("replay, ticks at divisor 65535", "tick", ticking(65535, 2, 4, 65535, 65535), 8_000),
-    ("replay, 100 MB", "record", mixed, 25_000_000),
+    ("bus-heavy", "record", bus_heavy, 10_000_000),
+    ("ticks at divisor 1", "tick", ticking(1, 10, 1, 300, 3000), 400_000),
+    ("ticks at divisor 65535", "tick", ticking(65535, 2, 4, 65535, 65535), 8_000),
+    ("100 MB", "record", mixed, 25_000_000),
 )
 
 
@@ -109,18 +111,45 @@ def make(calls, folder):
     return cases
 
 
-def processor_seconds(program, file):
-    """Of the program and of the system for it; it must answer `agreed`."""
+def processor_seconds(program, file, out):
+    """Of the program and of the system for it."""
     before = resource.getrusage(resource.RUSAGE_CHILDREN)
     with open(file, "rb") as capture:
-        done = subprocess.run([program], stdin=capture, stdout=subprocess.PIPE, check=True)
+        done = subprocess.run([program], stdin=capture, stdout=out, check=True)
     after = resource.getrusage(resource.RUSAGE_CHILDREN)
-    if done.stdout != b"agreed\n":
-        sys.exit(f"{program} answers {done.stdout} to {file}")
-    return after.ru_utime - before.ru_utime + after.ru_stime - before.ru_stime
+    return done.stdout, after.ru_utime - before.ru_utime + after.ru_stime - before.ru_stime
 
 
-def turn(programs, cases):
-    """The nanoseconds for a unit of each case, by each program."""
-    return {name: tuple(processor_seconds(program, file) / units * 1e9 for program in programs)
-            for name, file, units in cases}
+def replayed(program, file):
+    """The seconds of a replay, which must answer `agreed`."""
+    answer, seconds = processor_seconds(program, file, subprocess.PIPE)
+    if answer != b"agreed\n":
+        sys.exit(f"{program} answers {answer} to {file}")
+    return seconds
+
+
+def expected(program, file):
+    """The seconds of writing a capture anew."""
+    return processor_seconds(program, file, subprocess.DEVNULL)[1]
+
+
+def written_as_it_stands(program, file):
+    """The capture agrees with the model, so it is the one that is expected."""
+    again = file + ".expected"
+    with open(file, "rb") as capture, open(again, "wb") as out:
+        subprocess.run([program], stdin=capture, stdout=out, check=True)
+    if not filecmp.cmp(file, again, shallow=False):
+        sys.exit(f"{program} writes another capture for {file}")
+    os.remove(again)
+
+
+def turn(cases, replays, expects):
+    """The nanoseconds for a unit of each case, by each program. Of a capture all programs take their
+    turn one after the other, so that their times can be compared."""
+    rows = {"replay": {}, "expect": {}}
+    for name, file, units in cases:
+        seconds = [(replayed(replay, file), expected(expect, file) if expect else 0.0)
+                   for replay, expect in zip(replays, expects)]
+        for program, pair in zip(rows, zip(*seconds)):
+            rows[program][f"{program}, {name}"] = tuple(each / units * 1e9 for each in pair)
+    return {**rows["replay"], **(rows["expect"] if expects[0] else {})}
