@@ -1,5 +1,5 @@
 -- The loop over ticks: its invariant, and a law for each way that a turn goes.
-use Prim.Native.Nat.{ℕ, zero, suc, _-_, _≤_, _<_}
+use Prim.Native.Nat.{ℕ, _+_, _-_, _≤_, _<_}
 use native.Mathlib.Omega.{arith}
 use mathlib.Core.Path.{_≡_, refl, sym, ap, subst, _∙_}
 use mathlib.Core.Bool.{true}
@@ -11,18 +11,17 @@ use Rattle.device.specs.declared.State.{State}
 use Rattle.device.specs.Autoflow.{settled}
 use Rattle.device.specs.Transmitter.{ready}
 use Rattle.device.specs.Tick.{pulsed}
-use Rattle.device.specs.Calls.{tickOf, ticksOf}
-use Rattle.invariant.proofs.Good.{good-of}
+use Rattle.device.specs.Calls.{ticksOf}
 use Rattle.invariant.proofs.Settled.{Kept}
 use Rattle.invariant.proofs.Touched.{pulsed-touches}
-use Rattle.invariant.proofs.Steps.{tick-kept}
+use Rattle.invariant.proofs.Steps.{ticks-kept}
 use Rattle.clock.specs.declared.Setting.{Setting}
 use Rattle.clock.specs.declared.QuietPulse.{QuietPulse}
 use Rattle.clock.specs.Needs.{Quieting, Pulsing}
 use Rattle.clock.specs.Quiet.{settingOf, assembled, quietOf}
 use Rattle.clock.proofs.Needed.{state-hearing, state-idle}
 use Rattle.clock.proofs.Quieted.{quiet-is-pulse}
-use Rattle.clock.proofs.Ticked.{ticks-last, kept-settled, tick-counts, tick-pulses, restart-kept}
+use Rattle.clock.proofs.Ticked.{ticks-sum, kept-settled, k-some, ticks-count, ticks-pulse, restart-kept}
 
 -- The invariant: with so many ticks of the n left, the state is the one put together from the numbers in hand and the
 -- queues of t.
@@ -46,16 +45,23 @@ going-start n s c w d e =
       some = omega arith;
     }
 
--- One tick.
 module _ (n : ℕ) (s : State) (d : ℕ) (t : State) (c : Setting) (k : ℕ) (x : Frame) (v : Receiver) (l : Latches) (left : ℕ) (g : Going n s d t c k x v l left) where
-  ticks-on : (u : State) (b : Setting) (m : ℕ) (y : Frame) (w : Receiver) (h : Latches) → 0 < left → tickOf (assembled t k x v l) .state ≡ assembled u m y w h → b ≡ settingOf u → u .baud .divisor ≡ d → Going n s d u b m y w h (left - 1)
-  ticks-on u b m y w h more e f z =
+  -- the state so far
+  abbrev at : State
+  at = assembled t k x v l
+
+  -- the ticks so far, and some more
+  ticks-more : (m : ℕ) → ticksOf m at ≡ ticksOf (n - left + m) s
+  ticks-more m = ap (λ (r : State). ticksOf m r) (g .so-far) ∙ sym (ticks-sum (n - left) m s)
+
+  ticks-on : (m : ℕ) (u : State) (b : Setting) (j : ℕ) (y : Frame) (w : Receiver) (h : Latches) → m ≤ left → ticksOf m at ≡ assembled u j y w h → b ≡ settingOf u → u .baud .divisor ≡ d → Going n s d u b j y w h (left - m)
+  ticks-on m u b j y w h more e f z =
       let most = g .most in
-      let next : suc (n - left) ≡ n - (left - 1) = omega arith in
+      let next : n - left + m ≡ n - (left - m) = omega arith in
       record {
         most = omega arith;
-        so-far = sym e ∙ ap (λ (r : State). tickOf r .state) (g .so-far) ∙ sym (ticks-last (n - left) s) ∙ ap (λ (j : ℕ). ticksOf j s) next;
-        kept = subst Kept e (tick-kept (assembled t k x v l) (g .kept .places) (g .kept .well));
+        so-far = sym e ∙ ticks-more m ∙ ap (λ (i : ℕ). ticksOf i s) next;
+        kept = subst Kept e (ticks-kept m at (g .kept));
         setting = f;
         divisor = z;
         some = g .some;
@@ -66,98 +72,58 @@ module _ (n : ℕ) (s : State) (d : ℕ) (t : State) (c : Setting) (k : ℕ) (x 
 
   -- a pulse is to come
   pub going-some : 1 ≤ k
-  going-some = good-of (assembled t k x v l) (g .kept .well) .registers .k-least some-divisor
+  going-some = k-some at (g .kept) some-divisor
 
   -- the state as the pulse finds it
   abbrev at-pulse : State
   at-pulse = assembled t d x v l
 
-  pulses : k ≤ 1 → tickOf (assembled t k x v l) .state ≡ settled (pulsed at-pulse)
-  pulses h = tick-pulses (assembled t k x v l) (g .kept) some-divisor h ∙ ap (λ (m : ℕ). settled (pulsed (assembled t m x v l))) (g .divisor)
+  pulses : ticksOf k at ≡ settled (pulsed at-pulse)
+  pulses = ticks-pulse at (g .kept) some-divisor ∙ ap (λ (m : ℕ). settled (pulsed (assembled t m x v l))) (g .divisor)
 
   pulse-kept : Kept at-pulse
-  pulse-kept = subst (λ (m : ℕ). Kept (assembled t m x v l)) (g .divisor) (restart-kept (assembled t k x v l) (g .kept))
+  pulse-kept = subst (λ (m : ℕ). Kept (assembled t m x v l)) (g .divisor) (restart-kept at (g .kept))
 
   -- what the pulse needs
   pub going-quieting : Quieting c x v l
   unfolding settingOf
   going-quieting =
-      let u = assembled t k x v l in
-      let h = state-hearing u (g .kept) in
+      let h = state-hearing at (g .kept) in
       record {
         sin = rw (ap (λ (b : Setting). b .sin) (g .setting)) (h .sin);
         placed = h .placed;
-        idle = state-idle u (g .kept);
+        idle = state-idle at (g .kept);
       }
 
   pub going-pulsing : Pulsing at-pulse
   going-pulsing = record { hearing = state-hearing at-pulse pulse-kept; idle = state-idle at-pulse pulse-kept }
 
-  -- k falls
-  ticks-counts : 0 < left → 1 < k → Going n s d t c (k - 1) x v l (left - 1)
-  ticks-counts more h = ticks-on t c (k - 1) x v l more (tick-counts (assembled t k x v l) (g .kept) some-divisor h) (g .setting) (g .divisor)
-
-  -- a quiet pulse
-  ticks-quietly : (q : QuietPulse) → 0 < left → k ≤ 1 → q ≡ quietOf c x v l → q .quiet ≡ true → Going n s d t c d (q .frame) (q .receiver) (q .latches) (left - 1)
+  -- up to a quiet pulse
+  pub going-quietly : k ≤ left → (q : QuietPulse) → q ≡ quietOf c x v l → q .quiet ≡ true → Going n s d t c d (q .frame) (q .receiver) (q .latches) (left - k)
   unfolding settingOf ready
-  ticks-quietly q more h e quiet =
+  going-quietly within q e quiet =
       let f : q ≡ quietOf (settingOf at-pulse) x v l = e ∙ ap (λ (b : Setting). quietOf b x v l) (g .setting) in
       let p = quiet-is-pulse at-pulse (kept-settled at-pulse pulse-kept) (sym (ap (λ (r : QuietPulse). r .quiet) f) ∙ quiet) in
-      ticks-on t c d (q .frame) (q .receiver) (q .latches) more
-      (pulses h ∙ p ∙ ap (λ (r : QuietPulse). assembled t d (r .frame) (r .receiver) (r .latches)) (sym f))
+      ticks-on k t c d (q .frame) (q .receiver) (q .latches) within
+      (pulses ∙ p ∙ ap (λ (r : QuietPulse). assembled t d (r .frame) (r .receiver) (r .latches)) (sym f))
       (g .setting)
       (g .divisor)
 
-  -- a pulse that touches a queue
-  ticks-eventfully : (u : State) (b : Setting) → 0 < left → k ≤ 1 → u ≡ settled (pulsed at-pulse) → b ≡ settingOf u → Going n s d u b d (u .frame) (u .receiver) (u .latches) (left - 1)
+  -- up to a pulse that touches a queue
+  pub going-eventfully : k ≤ left → (u : State) (b : Setting) → u ≡ settled (pulsed at-pulse) → b ≡ settingOf u → Going n s d u b d (u .frame) (u .receiver) (u .latches) (left - k)
   unfolding settled
-  ticks-eventfully u b more h e f =
+  going-eventfully within u b e f =
       let baud : u .baud ≡ at-pulse .baud = ap (λ (r : State). r .baud) e ∙ ap (λ (r : State). r .baud) (pulsed-touches at-pulse) in
       let whole : u ≡ assembled u d (u .frame) (u .receiver) (u .latches) =
       ap (λ (m : ℕ). assembled u m (u .frame) (u .receiver) (u .latches)) (ap (λ (r : Baud). r .k) baud) in
-      ticks-on u b d (u .frame) (u .receiver) (u .latches) more
-      (pulses h ∙ sym e ∙ whole)
+      ticks-on k u b d (u .frame) (u .receiver) (u .latches) within
+      (pulses ∙ sym e ∙ whole)
       f
       (ap (λ (r : Baud). r .divisor) baud ∙ g .divisor)
 
--- Several ticks: as long as no pulse happens, k alone falls.
-module _ (n : ℕ) (s : State) (d : ℕ) (t : State) (c : Setting) (x : Frame) (v : Receiver) (l : Latches) where
-  same : {k k′ left left′ : ℕ} → k ≡ k′ → left ≡ left′ → Going n s d t c k x v l left → Going n s d t c k′ x v l left′
-  same {k} {k′} {left} {left′} p q g =
-      subst (λ (j : ℕ). Going n s d t c k′ x v l j) q (subst (λ (j : ℕ). Going n s d t c j x v l left) p g)
-
-  module _ (k left : ℕ) (g : Going n s d t c k x v l left) where
-    falls : (m : ℕ) → m < k → m ≤ left → Going n s d t c (k - m) x v l (left - m)
-    falls zero h i = same (omega arith) (omega arith) g
-    falls (suc m) h i =
-        same (omega arith) (omega arith)
-        (ticks-counts n s d t c (k - m) x v l (left - m) (falls m (omega arith) (omega arith)) (omega arith) (omega arith))
-
-    -- up to the next pulse
-    module _ (within : k ≤ left) where
-      positive : 1 ≤ k
-      positive = going-some n s d t c k x v l left g
-
-      before : Going n s d t c (k - (k - 1)) x v l (left - (k - 1))
-      before = let p = positive in falls (k - 1) (omega arith) (omega arith)
-
-      after : left - (k - 1) - 1 ≡ left - k
-      after = let p = positive in omega arith
-
-      pub going-quietly : (q : QuietPulse) → q ≡ quietOf c x v l → q .quiet ≡ true → Going n s d t c d (q .frame) (q .receiver) (q .latches) (left - k)
-      going-quietly q e quiet =
-          let p = positive in
-          subst (λ (j : ℕ). Going n s d t c d (q .frame) (q .receiver) (q .latches) j) after
-          (ticks-quietly n s d t c (k - (k - 1)) x v l (left - (k - 1)) before q (omega arith) (omega arith) e quiet)
-
-      pub going-eventfully : (u : State) (b : Setting) → u ≡ settled (pulsed (assembled t d x v l)) → b ≡ settingOf u → Going n s d u b d (u .frame) (u .receiver) (u .latches) (left - k)
-      going-eventfully u b e f =
-          let p = positive in
-          subst (λ (j : ℕ). Going n s d u b d (u .frame) (u .receiver) (u .latches) j) after
-          (ticks-eventfully n s d t c (k - (k - 1)) x v l (left - (k - 1)) before u b (omega arith) (omega arith) e f)
-
-    -- to the end, where no pulse is left
-    pub going-ends : left < k → assembled t (k - left) x v l ≡ ticksOf n s
-    going-ends short =
-        let all : n - (left - left) ≡ n = omega arith in
-        falls left short (omega arith) .so-far ∙ ap (λ (i : ℕ). ticksOf i s) all
+  -- to the end, where no pulse is left
+  pub going-ends : left < k → assembled t (k - left) x v l ≡ ticksOf n s
+  going-ends short =
+      let most = g .most in
+      let all : n - left + left ≡ n = omega arith in
+      sym (ticks-count left at (g .kept) some-divisor short) ∙ ticks-more left ∙ ap (λ (i : ℕ). ticksOf i s) all
