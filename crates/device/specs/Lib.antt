@@ -28,4 +28,6 @@ pub mod Scr
 pub mod Pins
 pub mod Calls
 pub mod Forecast
+pub mod Jump
+pub mod Jumps
 pub mod Rows

@@ -243,6 +243,25 @@ pub struct Ran {
     pub state: State,
 }
 
+// What ticks by jumps answer: the number of jumps, and the state after them.
+#[repr(C)]
+pub struct Jumped {
+    pub number: u8,
+    pub part: u8,
+    pub jumps: u32,
+    pub state: State,
+}
+
+// What run by jumps answers: the ticks used, the number of jumps, and the state after them.
+#[repr(C)]
+pub struct JumpRan {
+    pub number: u8,
+    pub part: u8,
+    pub used: u32,
+    pub jumps: u32,
+    pub state: State,
+}
+
 // What a step answers. The part stands last: before the state, it would move it off a multiple of eight
 // bytes, and copies would take longer.
 #[repr(C)]
