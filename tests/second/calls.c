@@ -7,6 +7,7 @@
 #include "capture.h"
 #include "divisor.h"
 #include "expected.h"
+#include "jump.h"
 #include "stream.h"
 
 #include <stdlib.h>
@@ -30,8 +31,8 @@ static const char help[] =
     "\n"
     "Takes calls from standard input, one to a line, and writes a line of answer for each:\n"
     "fresh, load V1 .. V351, state, reset, read A, write A B, sin V, modem V, tick, ticks N,\n"
-    "pins, forecast, level T, run N, replay V W.., part, divisor CLOCK RATE, expect V ROOM W..\n"
-    "Any other line is answered bad.\n"
+    "pins, forecast, level T, run N, replay V W.., part, divisor CLOCK RATE, expect V ROOM W..,\n"
+    "jump N, jumprun N. Any other line is answered bad.\n"
     "\n"
     "The exit status is 0, or 2 where an argument is unknown, or reading or writing failed.\n";
 
@@ -246,6 +247,21 @@ static void call_expect(void)
     put_numbers(numbers, 2u + given[1]);
 }
 
+static void call_jump(void)
+{
+    struct jump_answer a = jump_ticks(&current, given[0]);
+
+    put_pair(a.number, a.jumps);
+}
+
+static void call_jump_run(void)
+{
+    struct jump_answer a = jump_run(&current, given[0]);
+    uint32_t numbers[] = { a.number, a.used, a.jumps };
+
+    put_numbers(numbers, sizeof numbers / sizeof numbers[0]);
+}
+
 /*
  * A form: its word, how many numbers follow, the least of each, the most of the
  * first and of each behind it, and how many words of any 32 bits may come after these.
@@ -278,6 +294,8 @@ static const struct form forms[] = {
     { "part", 0, 0, { 0 }, 0, call_part },
     { "divisor", 2, 0, { UINT32_MAX, UINT32_MAX }, 0, call_divisor },
     { "expect", 2, 0, { 65535, MOST_WORDS }, MOST_WORDS, call_expect },
+    { "jump", 1, 0, { UINT32_MAX }, 0, call_jump },
+    { "jumprun", 1, 0, { UINT32_MAX }, 0, call_jump_run },
 };
 
 /* ---- Lines ---- */

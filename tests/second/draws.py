@@ -2,8 +2,8 @@
 
 Scripts: random well-formed states near boundaries with steps after them, sequences as a driver would
 write them, characters on SIN with and without errors, errors kept in character mode, forecasts with
-levels and runs around them, replays, expected captures, states damaged in one part or two, divisors
-for rates, lines of wrong form.
+levels and runs around them, jumps, replays, expected captures, states damaged in one part or two,
+divisors for rates, lines of wrong form.
 Captures: the same steps as records, most of them as they are, the others damaged.
 
 pick(n) gives a random number from 0 to n - 1. The bytes of reads in records come from a recorder;
@@ -106,6 +106,29 @@ def run_count(pick, s):
     return max(0, (0, 1, t - 1, t, t + 1, pick(t + 2))[pick(6)])
 
 
+# The most pulses that one jump or run may have to make.
+MOST_PULSES = 70000
+
+
+def jump_count(pick, s):
+    """N around 0, a pulse or T; or large: the most there are, or any number, where D is large or 0."""
+    d = s[st.DIVISOR]
+    chance = pick(12)
+    if chance < 2:
+        return pick(3)
+    if chance < 7:
+        return max(0, s[st.K] + pick(5) * d + pick(3) - 1)
+    if chance < 9:
+        return max(0, (st.forecast(s) or 0) + pick(3) - 1)
+    if d == 0 or d * MOST_PULSES >= BIG:
+        return (BIG, BIG, BIG - 1, pick(BIG + 1))[pick(4)]
+    return pick(d * (10, 200, 4000)[chance - 9])
+
+
+def jump_op(pick, s):
+    return "%s %d" % (("jump", "jumprun")[pick(2)], jump_count(pick, s))
+
+
 def value_op(pick, s):
     chance = pick(6)
     if chance == 0:
@@ -120,6 +143,11 @@ def refused_op(pick):
             "sin %d" % (2 + pick(254)), "modem %d" % (16 + pick(240)))[pick(4)]
 
 
+BAD_JUMPS = (
+    "jump", "jump ", "jump x", "jump 00", "jump 01", "jump  1", "jump 1 ", "jump 1 2", "jump -1",
+    "jump 4294967296", "Jump 1", "jumps 1", "jump run 1", "jumprun", "jumprun ", "jumprun x", "jumprun 00",
+    "jumprun  1", "jumprun 1 ", "jumprun 1 2", "jumprun +1", "jumprun 4294967296", "jumpruns 1", "jump1",
+)
 BAD_LINES = (
     "", " ", "tick ", " tick", "tick\r", "tick\t", "Tick", "ticks", "ticks 0", "ticks  1",
     "ticks 01", "ticks 1 1", "ticks -1", "ticks +1", "ticks 4294967296", "read", "read ",
@@ -138,7 +166,7 @@ BAD_LINES = (
     "expect", "expect ", "expect 1", "expect 1 ", "expect 1 1025", "expect 65536 1", "expect 1 0 ",
     "expect 01 0", "expect 1 00", "expect 1 0 00", "expect 1 -1", "expect  1 0", "expect 1  0",
     "expect 1 0 4294967296", "expect 1 4294967296 0", "expect 1 0" + " 0" * 1025,
-    "expect 65535 1024" + " 4294967295" * 1025, "expected 1 0",
+    "expect 65535 1024" + " 4294967295" * 1025, "expected 1 0", *BAD_JUMPS,
 )
 
 
@@ -216,6 +244,30 @@ def foretell_segment(pick, lines):
     lines.append("run %d" % run_count(pick, s))
     lines.append("pins")
     lines.append("forecast")
+    lines.append("state")
+
+
+JUMP_DIVISORS = (65535, 65535, 65534, 61357, 0)
+BETWEEN_JUMPS = ("read 0", "read 2", "read 5", "read 6", "pins", "forecast", "forecast", "state", "state",
+                 "sin 0", "sin 1", "modem 0", "modem 1", "write 0 65", "write 2 7", "tick", "part")
+
+
+def jump_segment(pick, lines):
+    """Jumps and runs over them, with other calls or lines of wrong form between, from a state near
+    boundaries; often at a large divisor, at which many ticks make few pulses, or with nothing to send.
+    No call between them moves the divisor."""
+    s = st.random_state(pick)
+    s[st.LCR] &= 0x7F
+    if pick(3) == 0:
+        d = s[st.DIVISOR] = JUMP_DIVISORS[pick(len(JUMP_DIVISORS))]
+        s[st.K] = d and (1, d, 1 + pick(d))[pick(3)]
+    if pick(5) == 0:
+        st.set_queue(s, [])
+        st.with_frame(s, 0, 0, 0)
+    lines += (st.load_line(s), jump_op(pick, s), "state")
+    for _ in range(pick(5)):
+        between = BAD_JUMPS if pick(8) == 0 else BETWEEN_JUMPS
+        lines += (jump_op(pick, s), between[pick(len(between))])
     lines.append("state")
 
 
@@ -521,17 +573,18 @@ def longest_segment(pick, lines):
               words_line("expect", 65535, MOST_WORDS, *words))
 
 
-def damaged_captures_segment(pick, lines):
-    """Replays and expected captures of damaged states."""
+def damaged_calls_segment(pick, lines):
+    """Replays, expected captures and jumps of damaged states."""
     damaged_segment(pick, lines)
     lines += ("replay %d" % pick(3), "replay %d %d" % (pick(3), pick(BIG + 1)),
               "expect %d %d" % (pick(3), pick(3)),
-              "expect %d %d %d" % (pick(3), pick(3), pick(BIG + 1)))
+              "expect %d %d %d" % (pick(3), pick(3), pick(BIG + 1)),
+              "jump %d" % pick(9), "jumprun %d" % pick(9), "state")
 
 
 def draw_script(pick, size, recorder):
-    segments = SEGMENTS + ((replay_segment(recorder),) * 4 + (expect_segment,) * 4 +
-                           (damaged_captures_segment, longest_segment))
+    segments = SEGMENTS + ((replay_segment(recorder),) * 4 + (expect_segment,) * 4 + (jump_segment,) * 4 +
+                           (damaged_calls_segment, longest_segment))
     lines = []
     while len(lines) < size:
         segments[pick(len(segments))](pick, lines)

@@ -190,17 +190,6 @@ def cases():
 VERSIONS = (0, 1, 2, 3, 256, 257, 65535)
 
 
-def damaged():
-    """States broken in each part, in two parts, and by numbers too wide."""
-    for names in parts.PAIRED.values():
-        yield parts.broken(names[:1])[0]
-    for low, high in ((1, 3), (2, 5), (4, 5)):
-        yield parts.broken((parts.PAIRED[low][0], parts.PAIRED[high][0]))[0]
-    for place in parts.BYTES:
-        yield st.beyond_width(parts.flow(), place)
-    yield [st.BIGGEST] * st.PLACES
-
-
 def refusals():
     """Lines whose number is 1 or 7, or beside such ones: 1 before 7 before 8 and 16."""
     odd = st.clocked()
@@ -211,7 +200,7 @@ def refusals():
             for words, room in (([BAD], 1), ([BAD], 0), (KINDS, 0), ([], 0), ([], FEW), (KINDS, MANY)):
                 yield line(words, room, version)
             yield from ("part", "state")
-    for s in damaged():
+    for s in parts.damaged():
         yield from (st.load_line(s), line(KINDS, FEW), "part", line([BAD], 1, 2), "part", line([], 0), "state")
 
 

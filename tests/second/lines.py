@@ -96,6 +96,19 @@ CASES += [
     (LONGEST + b"\n", b"7 0" + UNWRITTEN * MOST_WORDS + b"\n"), (LONGEST, b"7 0" + UNWRITTEN * MOST_WORDS + b"\n"),
     (LONGEST + b" \n", BAD), (LONGEST + b"1\n", BAD), (LONGEST[:-1] + b"6\n", BAD),
 ]
+CASES += [
+    (b"jump 0\n", b"0 0\n"), (b"jump 1", b"0 1\n"), (b"jump 4294967295\n", b"0 1\n"),
+    (b"jumprun 0\n", b"0 0 0\n"), (b"jumprun 4294967295", b"0 0 0\n"),
+    (b"write 0 65\njumprun 1\njumprun 4294967295\n", TICK + b"0 1 1\n0 4294967295 1\n"),
+    (LARGEST + b"\njump 4294967295\njumprun 4294967295\npart\n", b"0\n1 0\n1 0 0\n1 1\n"),
+    (b"jump run 1\n", BAD), (b"jum 1\n", BAD), (b"jumpru 1\n", BAD), (b"Jump 1\n", BAD), (b"JUMPRUN 1\n", BAD),
+]
+for name in (b"jump", b"jumprun"):
+    CASES += [(name + rest + b"\n", BAD)
+              for rest in (b"", b" ", b" 1 ", b"  1", b" 1 2", b" 00", b" 01", b" -1", b" +1", b" x", b" 1.0", b"\t1",
+                           b" 1\t", b" 1\r", b"1", b"s 1", b" 4294967296", b" 9999999999", b" 42949672950",
+                           b" 18446744073709551616", b" " + b"1" * 40)]
+    CASES += [(b" " + name + b" 1\n", BAD)]
 for length in (3831, 3832, 3833, 3834, 11275, 11276, 11277, 11280, 11281, 11282, 65535, 65536, 65537, 131072):
     CASES += [(b"y" * length, BAD), (b"y" * length + b"\n", BAD),
               (b"y" * length + b"\ntick", BAD + TICK)]
@@ -103,7 +116,7 @@ for length in (3831, 3832, 3833, 3834, 11275, 11276, 11277, 11280, 11281, 11282,
 
 TEXT_LINES = 300
 TEXT = (b"tick", b"read 5", b"", LARGEST, b"fresh", b"state", b"level 3", b"z" * 7000, LONGEST, REPLAY,
-        b"replay 1" + READ_LSR * MOST_WORDS, b"expect 1 1024" + DCD * MOST_WORDS)
+        b"replay 1" + READ_LSR * MOST_WORDS, b"expect 1 1024" + DCD * MOST_WORDS, b"jumprun 4294967295")
 
 
 def trouble_in_pieces(program):

@@ -22,8 +22,8 @@ from compare import first_difference
 
 HERE = os.path.dirname(os.path.abspath(__file__))
 PROGRAMS = ("calls", "replay", "expect")
-MODEL = ("model.c", "capture.c", "expected.c", "divisor.c", "source.c", "stream.c", "arguments.c")
-HEADERS = ("model.h", "record.h", "capture.h", "expected.h", "divisor.h", "source.h", "stream.h",
+MODEL = ("model.c", "capture.c", "expected.c", "divisor.c", "jump.c", "source.c", "stream.c", "arguments.c")
+HEADERS = ("model.h", "record.h", "capture.h", "expected.h", "divisor.h", "jump.h", "source.h", "stream.h",
            "arguments.h")
 CRATES = os.path.join(HERE, "..", "..", "crates")
 
@@ -87,6 +87,31 @@ LEFT = "        if (answer.number == UART_DONE && block.left != 0u)\n"
 HEADER = ("    if (number == UART_DONE && !(write_bytes(source, header, sizeof header) &&\n"
           "                                 expect_blocks(source, &number)))\n")
 TOLD = '        fprintf(stderr, "%" PRIu32 "\\n", number);\n'
+
+
+# The engine that jumps: how many ticks a jump has, and what they do; then the refusal, the loop and its look
+# at LSR6, what a jump adds, the end; the run, and what `calls` does with both.
+JUMP_TICKS = "    uint32_t ticks = left < u->k ? left : u->k;\n"
+JUMP_REST = "    u->k -= ticks - 1u;\n    uart_do_ticks(u, 1u);\n"
+JUMP_1 = ("    if (answer.part != UART_PART_NONE) {\n        answer.number = UART_MALFORMED;\n"
+          "        return answer;\n    }\n")
+JUMP_LOOP = "    while (answer.used < most && !(run && nothing_to_send(u))) {\n"
+JUMP_STOP = "!(run && nothing_to_send(u))"
+JUMP_COUNT = "        answer.jumps++;\n"
+JUMP_END = JUMP_COUNT + "    }\n"
+JUMP_RUN = "    return jump_on(u, most, true);\n"
+JUMP_CALL = "    struct jump_answer a = jump_ticks(&current, given[0]);\n"
+JUMP_RUN_CALL = "    struct jump_answer a = jump_run(&current, given[0]);\n"
+
+
+def counted_as(jumps):
+    """The end of the loop over jumps, their number then this."""
+    return JUMP_END + "    if (u->divisor != 0u)\n        answer.jumps = %s;\n" % jumps
+
+
+def on_copy(call):
+    """The call of `calls` on a copy of the current state."""
+    return "    struct uart copy = current;\n" + call.replace("&current", "&copy")
 
 
 def first_state(number):
@@ -1017,6 +1042,100 @@ MUTANTS = [
     ("expect: 1,023 records", "calls.c", "{ 65535, MOST_WORDS }, MOST_WORDS,",
      "{ 65535, MOST_WORDS }, MOST_WORDS - 1u,"),
     ("expect: lines as long as a replay's", "calls.c", 'sizeof "expect 65535 1024"', 'sizeof "replay 65535"'),
+
+    # Jumps.
+    ("jump: the pulse at N left out", "jump.c", JUMP_REST,
+     "    if (ticks == left) {\n        u->k -= left;\n        return left;\n    }\n" + JUMP_REST),
+    ("jump: one that ends at N by a pulse not counted", "jump.c", JUMP_COUNT,
+     "        if (u->divisor == 0u || u->k != u->divisor || answer.used < most)\n            answer.jumps++;\n"),
+    ("jump: a short one not counted", "jump.c", JUMP_COUNT,
+     "        if (u->divisor == 0u || u->k == u->divisor)\n            answer.jumps++;\n"),
+    ("jump: pulses counted only", "jump.c", JUMP_COUNT,
+     "        if (u->divisor != 0u && u->k == u->divisor)\n            answer.jumps++;\n"),
+    ("jump: none where N falls short of the first pulse", "jump.c", JUMP_LOOP,
+     "    if (most != 0u && most < u->k)\n        answer.jumps--;\n" + JUMP_LOOP),
+    ("jump: one for N = 0", "jump.c", JUMP_LOOP, "    if (most == 0u)\n        answer.jumps++;\n" + JUMP_LOOP),
+    ("jump: one for N = 0 and D = 0", "jump.c", JUMP_LOOP,
+     "    if (most == 0u && u->divisor == 0u)\n        answer.jumps++;\n" + JUMP_LOOP),
+    ("jump: D = 0, one for each tick", "jump.c", JUMP_COUNT,
+     "        answer.jumps += u->divisor == 0u ? most : 1u;\n"),
+    ("jump: D = 0, none", "jump.c", JUMP_COUNT, "        answer.jumps += u->divisor == 0u ? 0u : 1u;\n"),
+    ("jump: 1 + N / D", "jump.c", JUMP_END, counted_as("1u + answer.used / u->divisor")),
+    ("jump: 2 + N / D", "jump.c", JUMP_END, counted_as("2u + answer.used / u->divisor")),
+    ("jump: N / D rounded up", "jump.c", JUMP_END,
+     counted_as("answer.used / u->divisor + (answer.used % u->divisor != 0u)")),
+    ("jump: the number of jumps in 16 bits", "jump.c", JUMP_COUNT,
+     "        answer.jumps = (answer.jumps + 1u) & 0xFFFFu;\n"),
+    ("jump: N by its low 16 bits", "jump.c", JUMP_LOOP, "    most &= 0xFFFFu;\n" + JUMP_LOOP),
+    ("jump: N with a sign", "jump.c", "left < u->k ?", "(int32_t)left < (int32_t)u->k ?"),
+    ("jump: the first by D", "jump.c", JUMP_TICKS + "\n",
+     "    uint32_t ticks = left < u->divisor ? left : u->divisor;\n\n    u->k = u->divisor;\n"),
+    ("jump: the tick of a pulse by itself", "jump.c", JUMP_TICKS + "\n",
+     JUMP_TICKS + "\n    if (ticks == u->k && ticks > 1u)\n        ticks--;\n"),
+    ("jump: k anew at the rest", "jump.c", JUMP_REST,
+     JUMP_REST + "    if (ticks == left)\n        u->k = u->divisor;\n"),
+    ("jump: k as it was at the rest", "jump.c", JUMP_REST,
+     "    if (ticks < u->k)\n        return ticks;\n" + JUMP_REST),
+    ("jump: k a tick too high at the rest", "jump.c", JUMP_REST,
+     "    if (ticks < u->k) {\n        u->k -= ticks - 1u;\n        return ticks;\n    }\n" + JUMP_REST),
+    ("jump: the rest as k", "jump.c", JUMP_REST,
+     "    if (ticks < u->k) {\n        u->k = ticks;\n        return ticks;\n    }\n" + JUMP_REST),
+    ("jump: a pulse at the rest", "jump.c", "    u->k -= ticks - 1u;\n", "    u->k = 1u;\n"),
+    ("jump: a pulse and one tick more", "jump.c", "uart_do_ticks(u, 1u);", "uart_do_ticks(u, 2u);"),
+    ("jump: goes on over a pulse", "jump.c", JUMP_REST,
+     JUMP_REST + "    if (left - ticks > u->divisor) {\n        u->k = 1u;\n        uart_do_ticks(u, 1u);\n"
+     "        ticks += u->divisor;\n    }\n"),
+    ("jump: no pulses", "jump.c", "    uart_do_ticks(u, 1u);\n",
+     "    u->k = u->k == 1u ? u->divisor : u->k - 1u;\n"),
+    ("jump: stops as a run does", "jump.c", JUMP_STOP, "!nothing_to_send(u)"),
+    ("jump: a malformed state taken", "jump.c", JUMP_1, ""),
+    ("jump: a malformed state taken for N = 0", "jump.c", JUMP_1,
+     JUMP_1.replace("PART_NONE)", "PART_NONE && most != 0u)")),
+    ("jump: jumps beside 1", "jump.c", JUMP_1,
+     JUMP_1.replace("        return", "        answer.jumps = 1u;\n        return")),
+    ("jump: a malformed state made fresh", "jump.c", JUMP_1,
+     JUMP_1.replace("        return", "        uart_fresh(u);\n        return")),
+    ("jumprun: never stops", "jump.c", JUMP_STOP, "(run || !run)"),
+    ("jumprun: LSR6 looked at after each jump", "jump.c", JUMP_STOP,
+     "!(run && answer.jumps != 0u && nothing_to_send(u))"),
+    ("jumprun: stops a jump late", "jump.c", JUMP_LOOP,
+     "    bool empty = false;\n\n" + JUMP_LOOP.replace("nothing_to_send(u)", "empty") +
+     "        empty = nothing_to_send(u);\n"),
+    ("jumprun: a jump for LSR6 1 and D = 0", "jump.c", JUMP_STOP,
+     "!(run && u->divisor != 0u && nothing_to_send(u))"),
+    ("jumprun: stops at an empty queue", "jump.c", "#define LSR6 0x40u", "#define LSR6 0x20u"),
+    ("jumprun: stops at an empty shift register", "jump.c", JUMP_STOP, "!(run && u->frame_left == 0u)"),
+    ("jumprun: stops where it is held back", "jump.c", JUMP_STOP,
+     "!(run && (nothing_to_send(u) || (u->frame_left == 0u && uart_forecast(u).number == UART_HELD)))"),
+    ("jumprun: stops at D = 0", "jump.c", JUMP_STOP, "!(run && (u->divisor == 0u || nothing_to_send(u)))"),
+    ("jumprun: the look at LSR6 is a read of it", "jump.c", JUMP_STOP,
+     "!(run && (uart_read(u, ADDRESS_LSR).byte & LSR6) != 0u)"),
+    ("jumprun: the jumps of all N ticks", "jump.c", JUMP_RUN,
+     "    uint32_t d = u->divisor, k = u->k;\n    struct jump_answer answer = jump_on(u, most, true);\n\n"
+     "    if (answer.number == UART_DONE)\n        answer.jumps = d == 0u || most < k ? most != 0u\n"
+     "            : 1u + (most - k) / d + ((most - k) % d != 0u);\n    return answer;\n"),
+    ("jumprun: all N ticks used", "jump.c", JUMP_END,
+     JUMP_END + "    if (run)\n        answer.used = most;\n"),
+    ("jumprun: ticks used beside 1", "jump.c", JUMP_1,
+     JUMP_1.replace("        return", "        answer.used = run ? most : 0u;\n        return")),
+    ("jump: the ticks in place of the jumps", "calls.c", "put_pair(a.number, a.jumps);",
+     "put_pair(a.number, a.used);"),
+    ("jumprun: jumps before ticks", "calls.c", "{ a.number, a.used, a.jumps };",
+     "{ a.number, a.jumps, a.used };"),
+    ("jumprun: no jumps told", "calls.c", "{ a.number, a.used, a.jumps };", "{ a.number, a.used };"),
+    ("jump: the state stays", "calls.c", JUMP_CALL, on_copy(JUMP_CALL)),
+    ("jumprun: the state stays", "calls.c", JUMP_RUN_CALL, on_copy(JUMP_RUN_CALL)),
+    ("jump: 0 bad", "calls.c", '{ "jump", 1, 0,', '{ "jump", 1, 1,'),
+    ("jumprun: 0 bad", "calls.c", '{ "jumprun", 1, 0,', '{ "jumprun", 1, 1,'),
+    ("jump: a second number taken", "calls.c", '{ "jump", 1, 0, { UINT32_MAX }, 0,',
+     '{ "jump", 1, 0, { UINT32_MAX }, 1,'),
+    ("jumprun: a second number taken", "calls.c", '{ "jumprun", 1, 0, { UINT32_MAX }, 0,',
+     '{ "jumprun", 1, 0, { UINT32_MAX }, 1,'),
+    ("jump: no number taken", "calls.c", '{ "jump", 1, 0, { UINT32_MAX }, 0,', '{ "jump", 0, 0, { 0 }, 1,'),
+    ("jump: 4294967295 bad", "calls.c", '{ "jump", 1, 0, { UINT32_MAX },',
+     '{ "jump", 1, 0, { UINT32_MAX - 1u },'),
+    ("jumprun: 4294967295 bad", "calls.c", '{ "jumprun", 1, 0, { UINT32_MAX },',
+     '{ "jumprun", 1, 0, { UINT32_MAX - 1u },'),
 
     # The program expect.
     ("expect: a refused header written", "expect.c", HEADER,

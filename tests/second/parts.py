@@ -86,6 +86,17 @@ def unfit():
     yield [st.BIGGEST] * st.PLACES, 1
 
 
+def damaged():
+    """States broken in each part, in two parts, and by numbers too wide."""
+    for names in PAIRED.values():
+        yield broken(names[:1])[0]
+    for low, high in ((1, 3), (2, 5), (4, 5)):
+        yield broken((PAIRED[low][0], PAIRED[high][0]))[0]
+    for place in BYTES:
+        yield st.beyond_width(flow(), place)
+    yield [st.BIGGEST] * st.PLACES
+
+
 def with_numbers(s, numbers):
     """Numbers: places and what they get."""
     for place, number in numbers.items():

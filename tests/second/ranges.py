@@ -20,11 +20,12 @@ import parts
 import states as st
 
 STEPS = ("reset", "tick", "ticks 3", "read 0", "read 2", "read 5", "read 6", "write 0 65",
-         "write 1 255", "write 2 7", "write 4 34", "sin 0", "modem 9")
+         "write 1 255", "write 2 7", "write 4 34", "sin 0", "modem 9", "jump 3", "jumprun 3")
 CALLS = ("read 0", "read 8", "write 0 1", "write 9 1", "sin 0", "sin 2", "modem 1", "modem 16",
          "tick", "ticks 2", "reset")
-VALUES = ("forecast", "level 0", "level 7", "run 0", "run 9")
+VALUES = ("forecast", "level 0", "level 7", "run 0", "run 9", "jump 0", "jump 9")
 DIVISOR = ("divisor 3072000 7200", "0 27 -12345")
+JUMP_RUNS = ("jumprun 0", "jumprun 9")
 REPLAYS = ("replay 1", "replay 1 4294967295", "replay 2 1")
 NO_STEP = "1 0 0 0 0 0 0 0"
 NO_PINS = "1 0 0 0 0 0 0"
@@ -62,6 +63,7 @@ def refused(s, part):
     script += [(call, NO_STEP) for call in CALLS]
     script += [("pins", NO_PINS)]
     script += [(call, "1 0") for call in VALUES]
+    script += [(call, "1 0 0") for call in JUMP_RUNS]
     script += [(call, "refused 1 0") for call in REPLAYS]
     return script + [DIVISOR, bad, ("state", line[5:])]
 

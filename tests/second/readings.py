@@ -1,5 +1,5 @@
 #!/usr/bin/env python3
-"""Drives `calls` through the rules where document 01, or request b, c or e of document 02, leaves
+"""Drives `calls` through the rules where document 01, or request b, c, e or g of document 02, leaves
 room, as they are read here.
 
 Each part names the rule: a section of document 01, or what was decided beside it.
@@ -611,10 +611,92 @@ def divisor_and_state(r):
             r.call("state", place, s[place])
 
 
+def sending(divisor, k, left=40):
+    """A frame of which so many pulses are left: L counts the pulses."""
+    s = clocked(divisor=divisor, k=k)
+    s[st.L], s[st.BYTE], s[st.FORMAT] = left, 0x41, 0x03
+    return s
+
+
+def held_back(divisor, k):
+    """A byte is queued, autoflow on, CTS not asserted."""
+    s = fifo(clocked(divisor=divisor, k=k))
+    s[st.MCR] = 0x20
+    st.set_queue(s, [0x41])
+    return s
+
+
+# Ticks at D 5, k 3: the jumps they are, then k and the pulses they had.
+FIVE_AND_THREE = ((0, 0, 3, 0), (2, 1, 1, 0), (3, 1, 5, 1), (4, 2, 4, 1), (8, 2, 5, 2), (9, 3, 4, 2))
+
+
+def jumps_to_pulses(r):
+    for n, jumps, k, pulses in FIVE_AND_THREE:
+        r.start("D 5, k 3: a jump ends at a pulse or at N", sending(5, 3))
+        r.answers("jump %d" % n, 0, jumps)
+        r.holds({st.K: k, st.L: 40 - pulses})
+    for n in (0, 1, 7, st.BIGGEST):
+        r.start("D 0: one jump of all ticks, none for N = 0", sending(0, 0))
+        r.answers("jump %d" % n, 0, 1 if n else 0)
+        r.holds({st.K: 0, st.L: 40})
+    r.start("D 1: as many jumps as ticks", sending(1, 1))
+    for n in (0, 1, 30):
+        r.answers("jump %d" % n, 0, n)
+    r.holds({st.K: 1, st.L: 9})
+    for n, jumps in ((4, 2), (9, 3), (14, 4)):
+        r.start("2 + N / D jumps can be reached", sending(5, 1))
+        r.answers("jump %d" % n, 0, jumps)
+    for k, n, jumps, k_then, left in (
+            (65535, 65534, 1, 1, 40), (65535, 65536, 2, 65534, 39), (1, 65537, 3, 65534, 38),
+            (65535, st.BIGGEST, 65537, 65535, 0), (65534, st.BIGGEST, 65538, 65534, 0),
+            (1, st.BIGGEST, 65538, 1, 0)):
+        r.start("D 65535: up to the most ticks there are", sending(65535, k))
+        r.answers("jump %d" % n, 0, jumps)
+        r.holds({st.K: k_then, st.L: left})
+
+
+def runs_over_jumps(r):
+    for s in (clocked(divisor=5, k=3), st.fresh()):
+        r.start("with LSR6 already 1 no jump, also for D 0", s)
+        for n in (0, 1, st.BIGGEST):
+            r.answers("jumprun %d" % n, 0, 0, 0)
+        r.holds({st.K: s[st.K]})
+    for n in (0, 1, st.BIGGEST):
+        r.start("work left and D 0: one jump of all ticks", sending(0, 0))
+        r.answers("jumprun %d" % n, 0, n, 1 if n else 0)
+        r.holds({st.L: 40})
+    for n, used, jumps, k, left in ((0, 0, 0, 3, 2), (2, 2, 1, 1, 2), (3, 3, 1, 5, 1), (7, 7, 2, 1, 1),
+                                    (8, 8, 2, 5, 0), (9, 8, 2, 5, 0), (st.BIGGEST, 8, 2, 5, 0)):
+        r.start("the early stop is looked at before each jump", sending(5, 3, 2))
+        r.answers("jumprun %d" % n, 0, used, jumps)
+        r.holds({st.K: k, st.L: left})
+    for n, jumps, k, _ in FIVE_AND_THREE:
+        r.start("held back: the jumps of all ticks", held_back(5, 3))
+        r.answers("jumprun %d" % n, 0, n, jumps)
+        r.holds({st.K: k, st.TX_COUNT: 1})
+    s = fifo16(clocked(divisor=12, k=5))
+    st.set_queue(s, [0x41, 0x42, 0x43])
+    r.start("row 8 by jumps: one for each pulse", s)
+    r.answers("jumprun 10000", 0, 5765, 481)
+    r.answers("jumprun 10000", 0, 0, 0)
+
+
+def no_jumps(r):
+    for place, number in ((st.SIN, 2), (st.K, 0), (st.K, 6), (st.DIVISOR, 65536)):
+        s = sending(5, 3)
+        s[place] = number
+        r.start("a malformed state: 1, no ticks, no jumps, the state as it was", s)
+        for n in (0, 1, 9):
+            r.answers("jump %d" % n, 1, 0)
+            r.answers("jumprun %d" % n, 1, 0, 0)
+        r.holds({p: s[p] for p in (st.DIVISOR, st.K, st.SIN, st.L)})
+
+
 ALL_PARTS = (state_1_to_7, ends_of_steps, numbers, registers_14_to_20, pulses_21_to_25,
              narrow_places, part_beside_a_number, places_of_parts, joined_parts, wide_numbers,
              kept_until_lsr, kept_by_each, kept_without_data, kept_over_fcr, kept_ranges,
-             nearest_products, smaller_on_a_tie, cut_errors, outside_the_ranges, divisor_and_state)
+             nearest_products, smaller_on_a_tie, cut_errors, outside_the_ranges, divisor_and_state,
+             jumps_to_pulses, runs_over_jumps, no_jumps)
 
 
 def main():

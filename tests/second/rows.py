@@ -18,12 +18,23 @@ class Rows:
     def __init__(self, name):
         self.name = name
         self.lines = []
-        self.wants = []  # (row, index of the answer's number, wanted value) or None
+        self.wants = []  # the row, and wanted values by the index of the answer's number
         self.row = ""
 
-    def call(self, line, index=None, want=None):
+    def add(self, line, wants):
         self.lines.append(line)
-        self.wants.append(None if index is None else (self.row, index, want))
+        self.wants.append((self.row, wants))
+
+    def call(self, line, index=None, want=None):
+        self.add(line, {} if index is None else {index: want})
+
+    def answers(self, line, *numbers):
+        """The first numbers of an answer."""
+        self.add(line, dict(enumerate(numbers)))
+
+    def holds(self, wants):
+        """Numbers of the state, by their places."""
+        self.add("state", wants)
 
     def start(self, row, state=None):
         """A row starts from the fresh state, changed as it says."""
@@ -65,16 +76,14 @@ class Rows:
             print("%d lines, %d answers" % (len(self.lines), len(answers)))
             return False
         failed = set()
-        for line, answer, want in zip(self.lines, answers, self.wants):
-            if want is None:
-                continue
-            row, index, value = want
+        for line, answer, (row, wants) in zip(self.lines, answers, self.wants):
             numbers = answer.split()
-            if len(numbers) <= index or numbers[index] != str(value):
-                print("%s: %s answered %s, number %d should be %s"
-                      % (row, line[:60], answer[:60], index + 1, value))
-                failed.add(row)
-        rows = {want[0] for want in self.wants if want is not None}
+            for index, value in wants.items():
+                if len(numbers) <= index or numbers[index] != str(value):
+                    print("%s: %s answered %s, number %d should be %s"
+                          % (row, line[:60], answer[:60], index + 1, value))
+                    failed.add(row)
+        rows = {row for row, wants in self.wants if wants}
         print("%s: %d of %d parts as the documents say"
               % (self.name, len(rows) - len(failed), len(rows)))
         return not failed

@@ -16,6 +16,7 @@ import ask
 import captures
 import divisors
 import guesses
+import jumps
 import parts
 import readings
 import rows
@@ -1182,6 +1183,10 @@ BAD_LINES = (
     "expect 1 1 00", "expect -1 0", "expect 1 -1", "expect 1 -0", "expect 1 +1", "expect 1 0 -1", "expect 1 1.0",
     "expect 1,0", "expect x 0", "expect 1 x", "expect 1 0 x", "expect 1\t0", "expect 1 0\t0", "expect 1 0\r",
     "expect 1 0\t", " expect 1 0", "Expect 1 0", "expects 1 0", "expect1 0", "expec 1 0",
+    *(name + rest for name in ("jump", "jumprun")
+      for rest in ("", " ", " x", " 00", " 01", " 1 ", " 1 2", "  1", " -1", " +1", " 1.0", " 4294967296",
+                   " 18446744073709551617", " 1\r", "\t1", "1", "s 1")),
+    " jump 1", "Jump 1", "jum 1", "jump run 1", " jumprun 1", "JumpRun 1", "jumpRun 1", "jumpru 1", "run jump 1",
     "help", "quit", "exit", "?", "#", "# fresh", ";", "tick;tick", "read 5;", "'tick'", "0", "1 2",
     "x" * (LOAD - 1), "x" * LOAD, "x" * (LOAD + 1), "x" * 9000, "tick" + " " * 5000, "level " + "0" * 5000,
     " " * 4000, "load" + " 4294967295" * (PLACES + 1), "load" + " 0" * st.KEPT,
@@ -1204,6 +1209,7 @@ def bad_lines(q):
           "forecast", "level 0", "level 4294967295", "run 0", "run 4294967295", "reset", "fresh",
           "divisor 3072000 7200", "divisor 0 0", "divisor 4294967295 4294967295",
           "expect 1 0", "expect 0 0", "expect 65535 1", "expect 1 3 0 65535", "expect 1 1 4294967295",
+          "jump 0", "jump 1", "jump 4294967295", "jumprun 0", "jumprun 1", "jumprun 4294967295",
           "load" + " 0" * PLACES, "load" + " 4294967295" * PLACES, "pins", "state")
 
 
@@ -1644,6 +1650,11 @@ def expected_captures(q):
     q.raw(*guesses.long_lines())
 
 
+def jumps_to_pulses(q):
+    """Every rule of the engine that jumps from pulse to pulse, and of the run over it."""
+    q.raw(*jumps.script())
+
+
 def random_states(seed, count):
     def subject(q):
         """Random states near boundaries, one step, the state it leaves."""
@@ -1711,6 +1722,7 @@ SUBJECTS = (
     ("kept-errors", "errors kept apart in character mode", kept_errors),
     ("divisor", "the divisor for a rate, and its error", divisors_for_rates),
     ("expect", "the capture expected: records, rooms, refusals, its replay", expected_captures),
+    ("jump", "jumps from pulse to pulse, runs over them", jumps_to_pulses),
 )
 
 

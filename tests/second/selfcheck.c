@@ -22,9 +22,13 @@
  *
  * Divisors: the examples of document 02, request e, and random pairs of a clock and
  * a rate, against the rounded quotient and the bounds of the error.
+ *
+ * Jumps: on random states, against single ticks and against the pulses within the
+ * ticks; runs over them, against run; the counts of document 02, request g.
  */
 #include "divisor.h"
 #include "expected.h"
+#include "jump.h"
 
 #include <inttypes.h>
 #include <stdio.h>
@@ -41,6 +45,8 @@
 #define REPLAY_RECORDS 40u
 #define EXPECTED_ROOM (REPLAY_RECORDS + 10u)
 #define PAIRS 20000u
+#define JUMP_STATES 4000u
+#define FAR_JUMPS 100u
 #define LONGEST_STRING (192u + 64u * 192u)
 
 static uint64_t seed = 0x16C750u;
@@ -443,6 +449,14 @@ static void check_no_value(const struct uart *u, struct uart_value v, uint32_t p
     expect("malformed state's value", u, 0u, v.value);
 }
 
+static void check_no_jumps(const struct uart *u, struct jump_answer a, uint32_t part)
+{
+    struct uart_value used = { a.number, a.part, a.used };
+
+    check_no_value(u, used, part);
+    expect("malformed state's jumps", u, 0u, a.jumps);
+}
+
 static void check_damaged(struct uart *u)
 {
     uint32_t part = damage_some(u);
@@ -460,6 +474,8 @@ static void check_damaged(struct uart *u)
     check_no_value(u, uart_forecast(&v), part);
     check_no_value(u, uart_level(&v, draw(9u)), part);
     check_no_value(u, uart_run(&v, draw(9u)), part);
+    check_no_jumps(u, jump_ticks(&v, draw(9u)), part);
+    check_no_jumps(u, jump_run(&v, draw(9u)), part);
     check_unchanged(u, &v);
 }
 
@@ -792,6 +808,169 @@ static void check_pair(void)
         fail_pair("a pair's error", clock, rate, got);
 }
 
+/* ---- Jumps ---- */
+
+/* A way to pass ticks; it returns the jumps that they are. */
+typedef uint32_t passing(struct uart *u, uint32_t ticks);
+
+/* One by one. Each pulse ends a jump, and so does the last tick. */
+static uint32_t pass_singly(struct uart *u, uint32_t ticks)
+{
+    uint32_t until_pulse = u->k;
+    uint32_t jumps = 0u;
+
+    for (uint32_t i = 1u; i <= ticks; i++) {
+        uart_tick(u);
+        if (u->divisor != 0u && --until_pulse == 0u) {
+            until_pulse = u->divisor;
+            jumps++;
+        } else if (i == ticks) {
+            jumps++;
+        }
+    }
+    return jumps;
+}
+
+/* By the pulses within them, which are single ticks of divisor 1. */
+static uint32_t pass_pulses(struct uart *u, uint32_t ticks)
+{
+    uint32_t divisor = u->divisor;
+    uint32_t pulses;
+    uint32_t rest;
+
+    if (divisor == 0u || ticks < u->k) {
+        u->k -= divisor == 0u ? 0u : ticks;
+        return ticks == 0u ? 0u : 1u;
+    }
+    pulses = 1u + (ticks - u->k) / divisor;
+    rest = (ticks - u->k) % divisor;
+    u->divisor = u->k = 1u;
+    uart_ticks(u, pulses);
+    u->divisor = divisor;
+    u->k = divisor - rest;
+    return pulses + (rest == 0u ? 0u : 1u);
+}
+
+/* Of so many ticks, passed in this way: what the engine answers, and the state it leaves. */
+static void check_jumped(const struct uart *first, struct jump_answer got, const struct uart *left,
+                         uint32_t ticks, passing *pass)
+{
+    struct uart end = *first;
+    uint32_t jumps = pass(&end, ticks);
+
+    expect("engine's number", first, UART_DONE, got.number);
+    expect("engine's part", first, UART_PART_NONE, got.part);
+    expect("engine's ticks", first, ticks, got.used);
+    expect("jumps", first, jumps, got.jumps);
+    if (first->divisor != 0u && got.jumps > 2u + ticks / first->divisor)
+        fail("bound of the jumps", first, 2u + ticks / first->divisor, got.jumps);
+    if (memcmp(left, &end, sizeof end) != 0)
+        fail("engine's state", first, 0u, 1u);
+}
+
+/* The ticks that a run uses: the smaller of N and T, or N where the forecast gives 4 or 5. */
+static uint32_t used_of(const struct uart *u, uint32_t most)
+{
+    struct uart_value forecast = uart_forecast(u);
+
+    return forecast.number == UART_DONE && forecast.value < most ? forecast.value : most;
+}
+
+static void check_jumps(const struct uart *first, uint32_t ticks, passing *pass)
+{
+    struct uart by_jump = *first;
+    struct uart by_run = *first;
+
+    check_jumped(first, jump_ticks(&by_jump, ticks), &by_jump, ticks, pass);
+    check_jumped(first, jump_run(&by_run, ticks), &by_run, used_of(first, ticks), pass);
+}
+
+/* Few, around a pulse, around the forecast, or any below 1000. */
+static uint32_t draw_ticks(const struct uart *u)
+{
+    uint32_t around;
+
+    switch (draw(4u)) {
+    case 0:
+        return draw(12u);
+    case 1:
+        around = u->k + draw(4u) * u->divisor;
+        break;
+    case 2:
+        around = uart_forecast(u).value;
+        break;
+    default:
+        return draw(1000u);
+    }
+    return around == 0u ? draw(2u) : around + draw(3u) - 1u;
+}
+
+/* Ticks of random numbers, singly and by run too; then the most there are, at a large divisor. */
+static void check_drawn_jumps(void)
+{
+    struct uart u;
+
+    for (uint32_t i = 0u; i < JUMP_STATES; i++) {
+        uint32_t ticks;
+
+        draw_state(&u, draw(2u) != 0u ? 2u : 9u);
+        ticks = draw_ticks(&u);
+        check_jumps(&u, ticks, pass_singly);
+        check_jumps(&u, ticks, pass_pulses);
+        check_run(&u, ticks, used_of(&u, ticks));
+    }
+    for (uint32_t i = 0u; i < FAR_JUMPS; i++) {
+        draw_state(&u, 9u);
+        if (u.divisor != 0u) {
+            u.divisor = 65535u - draw(draw(2u) != 0u ? 2u : 30000u);
+            u.k = draw(2u) != 0u ? u.divisor : 1u + draw(u.divisor);
+        }
+        check_jumps(&u, UINT32_MAX - draw(3u), pass_pulses);
+    }
+}
+
+/* A divisor, k, ticks, and the jumps that they make. */
+struct counted {
+    uint32_t divisor;
+    uint32_t k;
+    uint32_t ticks;
+    uint32_t jumps;
+};
+
+static const struct counted counts[] = {
+    { 5u, 3u, 0u, 0u }, { 5u, 3u, 2u, 1u }, { 5u, 3u, 3u, 1u },          { 5u, 3u, 4u, 2u },
+    { 5u, 3u, 8u, 2u }, { 5u, 3u, 9u, 3u }, { 5u, 3u, 13u, 3u },         { 5u, 5u, 4u, 1u },
+    { 5u, 5u, 5u, 1u }, { 5u, 5u, 6u, 2u }, { 5u, 1u, 1u, 1u },          { 5u, 1u, 2u, 2u },
+    { 1u, 1u, 0u, 0u }, { 1u, 1u, 1u, 1u }, { 1u, 1u, 1000u, 1000u },    { 0u, 0u, 0u, 0u },
+    { 0u, 0u, 1u, 1u }, { 0u, 0u, 2u, 1u }, { 0u, 0u, UINT32_MAX, 1u },
+    { 65535u, 65535u, 65534u, 1u },         { 65535u, 65535u, 65535u, 1u },
+    { 65535u, 65535u, 65536u, 2u },         { 65535u, 1u, 65536u, 2u },
+    { 65535u, 1u, 65537u, 3u },             { 65535u, 65535u, UINT32_MAX, 65537u },
+    { 65535u, 65534u, UINT32_MAX, 65538u }, { 65535u, 1u, UINT32_MAX, 65538u },
+};
+
+/* With nothing to send a run makes no jump; with a byte that is held back it makes them all. */
+static void check_counts(void)
+{
+    for (size_t i = 0; i < sizeof counts / sizeof counts[0]; i++) {
+        struct counted c = counts[i];
+        struct uart idle;
+        struct uart u;
+
+        uart_fresh(&idle);
+        idle.divisor = c.divisor;
+        idle.k = c.k;
+        u = idle;
+        expect("jumps of a count", &idle, c.jumps, jump_ticks(&u, c.ticks).jumps);
+        u = idle;
+        expect("jumps with LSR6 1", &idle, 0u, jump_run(&u, c.ticks).jumps);
+        u = idle;
+        u.mcr = 0x20u;
+        u.fifo_on = u.tx_count = 1u;
+        expect("jumps held back", &idle, c.jumps, jump_run(&u, c.ticks).jumps);
+    }
+}
+
 int main(void)
 {
     struct uart u;
@@ -840,5 +1019,8 @@ int main(void)
     for (uint32_t i = 0u; i < PAIRS; i++)
         check_pair();
     printf("divisors: %u pairs as the quotient says\n", PAIRS);
+    check_counts();
+    check_drawn_jumps();
+    printf("jumps: %u states as single ticks, %u far ones\n", JUMP_STATES, FAR_JUMPS);
     return EXIT_SUCCESS;
 }
