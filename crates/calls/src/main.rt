@@ -39,7 +39,7 @@ fn serve(block: &mut [u8], numbers: &mut [u32], kept: &mut [u32], out: &mut [u8]
 fn help() {
     turns::tell(io::write_all(
         STDOUT_FILENO,
-        b"usage: calls [--help]\n\nTakes calls from standard input, one to a line, and writes a line of answer for each:\nfresh, load V1 .. V351, state, reset, read A, write A B, sin V, modem V, tick, ticks N,\npins, forecast, level T, run N, replay V W.., part, divisor CLOCK RATE, expect V ROOM W..\nAny other line is answered bad.\n\nThe exit status is always 0. Where reading or writing fails, standard error says so,\nand nothing more is answered.\n",
+        b"usage: calls [--help]\n\nTakes calls from standard input, one to a line, and writes a line of answer for each:\nfresh, load V1 .. V351, state, reset, read A, write A B, sin V, modem V, tick, ticks N,\npins, forecast, level T, run N, replay V W.., part, divisor CLOCK RATE, expect V ROOM W..,\njump N, jumprun N.\nAny other line is answered bad.\n\nThe exit status is always 0. Where reading or writing fails, standard error says so,\nand nothing more is answered.\n",
     ));
 }
 

@@ -41,6 +41,14 @@ module _ (a : List ℕ) (n : ℕ) (e : numberOf a ≡ Number.Value n) where
   unfolding lookUp table same
   run-some h k = simp (e, le-leb _ _ h, le-leb _ _ k)
 
+  pub jump-some : 0 ≤ n → n ≤ 4294967295 → lookUp table (text "jump") (a ∷ []) ≡ Command.Jump n
+  unfolding lookUp table same
+  jump-some h k = simp (e, le-leb _ _ h, le-leb _ _ k)
+
+  pub jumprun-some : 0 ≤ n → n ≤ 4294967295 → lookUp table (text "jumprun") (a ∷ []) ≡ Command.JumpRun n
+  unfolding lookUp table same
+  jumprun-some h k = simp (e, le-leb _ _ h, le-leb _ _ k)
+
   pub read-some : 0 ≤ n → n ≤ 255 → lookUp table (text "read") (a ∷ []) ≡ Command.Step (Call.Read n)
   unfolding lookUp table same
   read-some h k = simp (e, le-leb _ _ h, le-leb _ _ k)
@@ -54,10 +62,10 @@ module _ (a : List ℕ) (n : ℕ) (e : numberOf a ≡ Number.Value n) where
   modem-some h k = simp (e, le-leb _ _ h, le-leb _ _ k)
 
 -- none of those whose number may be large, and the number is no byte
-pub no-large : (w a : List ℕ) (n : ℕ) → numberOf a ≡ Number.Value n → 255 < n → same w (text "ticks") ≡ false → same w (text "level") ≡ false → same w (text "run") ≡ false → same w (text "replay") ≡ false → Command.Bad ≡ lookUp table w (a ∷ [])
+pub no-large : (w a : List ℕ) (n : ℕ) → numberOf a ≡ Number.Value n → 255 < n → same w (text "ticks") ≡ false → same w (text "level") ≡ false → same w (text "run") ≡ false → same w (text "jump") ≡ false → same w (text "jumprun") ≡ false → same w (text "replay") ≡ false → Command.Bad ≡ lookUp table w (a ∷ [])
 unfolding lookUp table areNumbers allNumbers
-no-large w a n e h t l r p = simp (e, lt-leb _ _ h, and-false, t, l, r, p, cond-same)
+no-large w a n e h t l r j k p = simp (e, lt-leb _ _ h, and-false, t, l, r, j, k, p, cond-same)
 
-pub no-one : (w a : List ℕ) (n : ℕ) → numberOf a ≡ Number.Value n → same w (text "ticks") ≡ false → same w (text "level") ≡ false → same w (text "run") ≡ false → same w (text "read") ≡ false → same w (text "sin") ≡ false → same w (text "modem") ≡ false → same w (text "replay") ≡ false → Command.Bad ≡ lookUp table w (a ∷ [])
+pub no-one : (w a : List ℕ) (n : ℕ) → numberOf a ≡ Number.Value n → same w (text "ticks") ≡ false → same w (text "level") ≡ false → same w (text "run") ≡ false → same w (text "jump") ≡ false → same w (text "jumprun") ≡ false → same w (text "read") ≡ false → same w (text "sin") ≡ false → same w (text "modem") ≡ false → same w (text "replay") ≡ false → Command.Bad ≡ lookUp table w (a ∷ [])
 unfolding lookUp table areNumbers allNumbers
-no-one w a n e t l r d s m p = simp (e, t, l, r, d, s, m, p, cond-same)
+no-one w a n e t l r j k d s m p = simp (e, t, l, r, j, k, d, s, m, p, cond-same)

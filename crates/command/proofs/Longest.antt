@@ -212,7 +212,9 @@ module _ (w : List ℕ) (ws : List (List ℕ)) (h : longestLine < length w + tot
       (row-long (text "replay") _ _ (λ (e : length w ≡ 6). replay-long _ Command.Replay ws (omega (arith, e)))
       (row-long (text "part") _ _ (λ (e : length w ≡ 4). bare-long _ ws (omega (arith, e)))
       (row-long (text "divisor") _ _ (λ (e : length w ≡ 7). two-long 0 4294967295 _ ws (omega (arith, e)))
-      (row-long (text "expect") _ _ (λ (e : length w ≡ 6). expect-long _ Command.Expect ws (omega (arith, e))) refl)))))))))))))))))
+      (row-long (text "expect") _ _ (λ (e : length w ≡ 6). expect-long _ Command.Expect ws (omega (arith, e)))
+      (row-long (text "jump") _ _ (λ (e : length w ≡ 4). one-long 0 4294967295 _ ws (omega (arith, e)))
+      (row-long (text "jumprun") _ _ (λ (e : length w ≡ 7). one-long 0 4294967295 _ ws (omega (arith, e))) refl)))))))))))))))))))
 
 pub long-line : (l : List ℕ) → longestLine < length l → commandOf l ≡ Command.Bad
 unfolding commandOf byWords

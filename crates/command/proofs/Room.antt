@@ -66,7 +66,9 @@ module _ (w : List ℕ) (ws : List (List ℕ)) where
       (row-room (text "replay") _ _ (leading-room 0 mostVersion _ ws (λ n vs m. listed-room _ (Command.Replay n) vs (omega arith)))
       (row-room (text "part") _ _ (bare-room _ ws (omega arith))
       (row-room (text "divisor") _ _ (leading-room 0 4294967295 _ ws (λ n vs m. one-room 0 4294967295 _ vs (λ k l. omega arith)))
-      (row-room (text "expect") _ _ (leading-room 0 mostVersion _ ws (λ v vs m. leading-room 0 mostRoom _ vs (λ room us k. listed-room _ (Command.Expect v room) us k))) (omega arith))))))))))))))))))
+      (row-room (text "expect") _ _ (leading-room 0 mostVersion _ ws (λ v vs m. leading-room 0 mostRoom _ vs (λ room us k. listed-room _ (Command.Expect v room) us k)))
+      (row-room (text "jump") _ _ (one-room 0 4294967295 _ ws (λ n m. omega arith))
+      (row-room (text "jumprun") _ _ (one-room 0 4294967295 _ ws (λ n m. omega arith)) (omega arith))))))))))))))))))))
 
 pub room-most : (l : List ℕ) → roomOf (commandOf l) ≤ mostRoom
 unfolding commandOf byWords

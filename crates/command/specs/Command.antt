@@ -136,6 +136,8 @@ table =
     ∷ row "part" (bare Command.Part)
     ∷ row "divisor" (two 0 4294967295 Command.Divisor)
     ∷ row "expect" (leading 0 mostVersion (λ v. leading 0 mostRoom (λ room. listed mostRecords (Command.Expect v room))))
+    ∷ row "jump" (one 0 4294967295 Command.Jump)
+    ∷ row "jumprun" (one 0 4294967295 Command.JumpRun)
     ∷ []
 
 -- the row of a word
@@ -171,6 +173,8 @@ beside (Command.Replay v n) = n + 1
 beside Command.Part = 0
 beside (Command.Divisor c r) = 0
 beside (Command.Expect v room n) = n + 2
+beside (Command.Jump n) = 0
+beside (Command.JumpRun n) = 0
 beside Command.Bad = 0
 
 -- how many words a command writes into: the room of `expect`
@@ -187,6 +191,8 @@ roomOf (Command.Replay v n) = 0
 roomOf Command.Part = 0
 roomOf (Command.Divisor c r) = 0
 roomOf (Command.Expect v room n) = room
+roomOf (Command.Jump n) = 0
+roomOf (Command.JumpRun n) = 0
 roomOf Command.Bad = 0
 
 -- the numbers beside a line's command

@@ -55,6 +55,8 @@ pub enum Command {
     Part,
     Divisor(u32, u32),
     Expect(u32, usize, usize),
+    Jump(u32),
+    JumpRun(u32),
     Bad,
 }
 
@@ -110,6 +112,12 @@ fn with_number(word: &[u8], n: u32) -> Command
     }
     if words::same(word, b"run") {
         return Command::Run(n);
+    }
+    if words::same(word, b"jump") {
+        return Command::Jump(n);
+    }
+    if words::same(word, b"jumprun") {
+        return Command::JumpRun(n);
     }
     if 255 < n {
         return Command::Bad;

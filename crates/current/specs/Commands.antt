@@ -7,6 +7,7 @@ use Rattle.device.specs.declared.State.{State}
 use Rattle.device.specs.State.{freshOf}
 use Rattle.device.specs.Calls.{pinsOf}
 use Rattle.device.specs.Forecast.{forecastOf, levelOf, runOf}
+use Rattle.device.specs.Jump.{jumpOf, jumpRunOf}
 use Rattle.capture.specs.declared.Replayed.{Replayed}
 use Rattle.capture.specs.Replay.{replayOf}
 use Rattle.expected.specs.Expected.{Written, expectOf}
@@ -16,7 +17,7 @@ use Rattle.current.specs.declared.Session.{Session}
 use Rattle.text.specs.Text.{text}
 use Rattle.text.specs.Decimal.{lineOf}
 use Rattle.outcome.specs.Outcome.{outcomeLine}
-use Rattle.reply.specs.Reply.{stepOf, stepNumbers, lookNumbers, forecastNumbers, levelNumbers, partNumbers, runNumbers, divisorLine}
+use Rattle.reply.specs.Reply.{stepOf, stepNumbers, lookNumbers, forecastNumbers, levelNumbers, partNumbers, runNumbers, jumpNumbers, jumpRunNumbers, divisorLine}
 use Rattle.current.specs.Current.{held, loadedOf, currentNumbers, moved}
 
 -- replay of a line's records, which follow the version in its numbers ns
@@ -49,6 +50,8 @@ saidOf s kept ns (Command.Replay v n) = outcomeLine (replayedOf (s .state) v ns 
 saidOf s kept ns Command.Part = lineOf (partNumbers (pinsOf (s .state)))
 saidOf s kept ns (Command.Divisor c r) = divisorLine (divisorFor c r)
 saidOf s kept ns (Command.Expect v room n) = lineOf (writtenNumbers (expectedOf (s .state) v room (drop 2 ns)))
+saidOf s kept ns (Command.Jump n) = lineOf (jumpNumbers (jumpOf (s .state) n))
+saidOf s kept ns (Command.JumpRun n) = lineOf (jumpRunNumbers (jumpRunOf (s .state) n))
 saidOf s kept ns Command.Bad = text "bad\n"
 
 -- The current state after a command.
@@ -65,6 +68,8 @@ nextOf s ns (Command.Replay v n) = moved s (replayedOf (s .state) v ns .state)
 nextOf s ns Command.Part = s
 nextOf s ns (Command.Divisor c r) = s
 nextOf s ns (Command.Expect v room n) = moved s (expectedOf (s .state) v room (drop 2 ns) .answer .state)
+nextOf s ns (Command.Jump n) = moved s (jumpOf (s .state) n .state)
+nextOf s ns (Command.JumpRun n) = moved s (jumpRunOf (s .state) n .state)
 nextOf s ns Command.Bad = s
 
 -- The numbers loaded last, after a command.
@@ -81,6 +86,8 @@ keptOf kept ns (Command.Replay v n) = kept
 keptOf kept ns Command.Part = kept
 keptOf kept ns (Command.Divisor c r) = kept
 keptOf kept ns (Command.Expect v room n) = kept
+keptOf kept ns (Command.Jump n) = kept
+keptOf kept ns (Command.JumpRun n) = kept
 keptOf kept ns Command.Bad = kept
 
 -- a command that leaves both as they are
@@ -97,4 +104,6 @@ changesNothing (Command.Replay v n) = false
 changesNothing Command.Part = true
 changesNothing (Command.Divisor c r) = true
 changesNothing (Command.Expect v room n) = false
+changesNothing (Command.Jump n) = false
+changesNothing (Command.JumpRun n) = false
 changesNothing Command.Bad = true

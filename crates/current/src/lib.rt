@@ -11,13 +11,14 @@ ghost use lib.ListN.{length};
 ghost use Rattle.device.specs.State.{freshOf};
 ghost use Rattle.device.specs.Ranges.{partOf};
 ghost use Rattle.device.specs.Forecast.{runOf};
+ghost use Rattle.device.specs.Jump.{jumpOf, jumpRunOf};
 ghost use Rattle.capture.specs.Replay.{replayOf};
 ghost use Rattle.command.specs.Command.{mostRoom};
 ghost use Rattle.text.specs.Text.{Appended};
 ghost use Rattle.text.specs.Decimal.{lineOf};
 ghost use Rattle.numbers.specs.Numbers.{stateCount};
 ghost use Rattle.outcome.specs.Outcome.{outcomeLine};
-ghost use Rattle.reply.specs.Reply.{stepOf, stepNumbers, runNumbers};
+ghost use Rattle.reply.specs.Reply.{stepOf, stepNumbers, runNumbers, jumpNumbers, jumpRunNumbers};
 ghost use Rattle.current.specs.Current.{held, broken as «broken-in», loadedOf, loadedPart, currentNumbers, longestAnswer, moved};
 ghost use Rattle.current.specs.Commands.{expectedOf, writtenNumbers};
 
@@ -99,6 +100,20 @@ pub fn put_current(s: Session, kept: &[u32], out: &mut [u8], at: usize) -> usize
     decimal::put_line(kept, out, at)
 }
 
+// The current state with another state of the model, and the end of an answer.
+fn moved_to(s: Session, state: State, end: usize) -> Said
+    ensures { λ r. ⌜ r .session ≡ moved s state ⌝ }
+    ensures { λ r. ⌜ r .end ≡ end ⌝ }
+{
+    Said {
+        session: Session {
+            state,
+            fits: s.fits,
+        },
+        end,
+    }
+}
+
 // Makes a step, and puts its answer.
 pub fn stepped(s: Session, c: Call, out: &mut [u8], at: usize) -> Said
     requires { ⌜ at + 88 ≤ length (now out) ⌝ }
@@ -110,13 +125,7 @@ pub fn stepped(s: Session, c: Call, out: &mut [u8], at: usize) -> Said
     let n = reply::step_numbers(a);
     let end = decimal::put_line(&n, out, at);
     let state = a.state;
-    Said {
-        session: Session {
-            state,
-            fits: s.fits,
-        },
-        end,
-    }
+    moved_to(s, state, end)
 }
 
 // Runs, and puts the answer.
@@ -129,13 +138,33 @@ pub fn ran(s: Session, n: u32, out: &mut [u8], at: usize) -> Said
     let a = foretell::run(t, n);
     let end = reply::put_pair(a.number, a.used, out, at);
     let state = a.state;
-    Said {
-        session: Session {
-            state,
-            fits: s.fits,
-        },
-        end,
-    }
+    moved_to(s, state, end)
+}
+
+// Ticks by jumps, and puts the answer.
+pub fn jumped(s: Session, n: u32, out: &mut [u8], at: usize) -> Said
+    requires { ⌜ at + 22 ≤ length (now out) ⌝ }
+    ensures { λ r. ⌜ r .session ≡ moved s (jumpOf (s .state) n .state) ⌝ }
+    ensures { λ r. ⌜ Appended (now (out .entry)) at (lineOf (jumpNumbers (jumpOf (s .state) n))) (now (out .exit)) (r .end) ⌝ }
+{
+    let t = s.state;
+    let j = jump::jump(t, n);
+    let end = reply::put_pair(j.number, j.jumps, out, at);
+    let state = j.state;
+    moved_to(s, state, end)
+}
+
+// Runs by jumps, and puts the answer.
+pub fn jump_ran(s: Session, n: u32, out: &mut [u8], at: usize) -> Said
+    requires { ⌜ at + 33 ≤ length (now out) ⌝ }
+    ensures { λ r. ⌜ r .session ≡ moved s (jumpRunOf (s .state) n .state) ⌝ }
+    ensures { λ r. ⌜ Appended (now (out .entry)) at (lineOf (jumpRunNumbers (jumpRunOf (s .state) n))) (now (out .exit)) (r .end) ⌝ }
+{
+    let t = s.state;
+    let r = jump::run(t, n);
+    let end = reply::put_triple(r.number, r.used, r.jumps, out, at);
+    let state = r.state;
+    moved_to(s, state, end)
 }
 
 // Replays records of a version, and puts the answer.
@@ -149,13 +178,7 @@ pub fn replayed(s: Session, version: u32, records: &[u32], out: &mut [u8], at: u
     let o = played.outcome;
     let end = outcome::put_outcome(o, out, at);
     let state = played.state;
-    Said {
-        session: Session {
-            state,
-            fits: s.fits,
-        },
-        end,
-    }
+    moved_to(s, state, end)
 }
 
 // Writes the capture expected for records of a version into a run of `room` words, and puts the answer.
@@ -180,13 +203,7 @@ pub fn expected(
     said[1] = w.count as u32;
     let end = decimal::put_line(&said[..last], out, at);
     let state = w.state;
-    Said {
-        session: Session {
-            state,
-            fits: s.fits,
-        },
-        end,
-    }
+    moved_to(s, state, end)
 }
 
 // Starts again, and puts the answer.

@@ -11,7 +11,7 @@ use Rattle.current.specs.Commands.{changesNothing}
 
 -- The commands that `put_answer` does not name, by their places in the enum: of these only a bad line's changes nothing.
 abbrev pub others : List ℕ
-others = 0 ∷ 1 ∷ 3 ∷ 7 ∷ 8 ∷ 11 ∷ 12 ∷ []
+others = 0 ∷ 1 ∷ 3 ∷ 7 ∷ 8 ∷ 11 ∷ 12 ∷ 13 ∷ 14 ∷ []
 
 pub is-bad : (c : Command) → changesNothing c ≡ true → OneOf others (tagOf the-type c) → c ≡ Command.Bad
 is-bad Command.Fresh h k = absurd (false≢true h)
@@ -26,4 +26,6 @@ is-bad (Command.Replay v n) h k = absurd (false≢true h)
 is-bad Command.Part h k = absurd (miss others 9 tt k)
 is-bad (Command.Divisor c r) h k = absurd (miss others 10 tt k)
 is-bad (Command.Expect v room n) h k = absurd (false≢true h)
+is-bad (Command.Jump n) h k = absurd (false≢true h)
+is-bad (Command.JumpRun n) h k = absurd (false≢true h)
 is-bad Command.Bad h k = refl

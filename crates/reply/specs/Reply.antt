@@ -7,6 +7,8 @@ use Rattle.device.specs.declared.Looked.{Looked}
 use Rattle.device.specs.declared.Forecasted.{Forecasted}
 use Rattle.device.specs.declared.Leveled.{Leveled}
 use Rattle.device.specs.declared.Ran.{Ran}
+use Rattle.device.specs.declared.Jumped.{Jumped}
+use Rattle.device.specs.declared.JumpRan.{JumpRan}
 use Rattle.device.specs.declared.State.{State}
 use Rattle.device.specs.Calls.{resetOf, readOf, writeOf, sinOf, modemOf, tickOf, ticksAnswer}
 use Rattle.rate.specs.declared.Picked.{Picked}
@@ -50,6 +52,14 @@ partNumbers l = l .number ∷ l .part ∷ []
 -- NO USED
 abbrev pub runNumbers : Ran → List ℕ
 runNumbers r = r .number ∷ r .used ∷ []
+
+-- NO JUMPS
+abbrev pub jumpNumbers : Jumped → List ℕ
+jumpNumbers j = j .number ∷ j .jumps ∷ []
+
+-- NO USED JUMPS
+abbrev pub jumpRunNumbers : JumpRan → List ℕ
+jumpRunNumbers r = r .number ∷ r .used ∷ r .jumps ∷ []
 
 -- NO DIVISOR ERROR, a line: only the error has a sign
 unfoldable pub divisorLine : Picked → List ℕ

@@ -75,6 +75,14 @@ pub fn put_pair(number: u8, result: u32, out: &mut [u8], at: usize) -> usize
     decimal::put_line(&n, out, at)
 }
 
+pub fn put_triple(number: u8, first: u32, second: u32, out: &mut [u8], at: usize) -> usize
+    requires { ⌜ at + 33 ≤ length (now out) ⌝ }
+    ensures { λ r. ⌜ Appended (now (out .entry)) at (lineOf (number ∷ first ∷ second ∷ [])) (now (out .exit)) r ⌝ }
+{
+    let n = [number as u32, first, second];
+    decimal::put_line(&n, out, at)
+}
+
 pub fn put_pins(s: State, out: &mut [u8], at: usize) -> usize
     requires { ⌜ at + 77 ≤ length (now out) ⌝ }
     ensures { λ r. ⌜ Appended (now (out .entry)) at (lineOf (lookNumbers (pinsOf s))) (now (out .exit)) r ⌝ }

@@ -32,7 +32,7 @@ drop-take (suc from) (suc to) (x ∷ xs) =
 
 -- The commands that `answer` leaves to `query`, by their places in the enum: they change nothing.
 abbrev pub queries : List ℕ
-queries = 2 ∷ 4 ∷ 5 ∷ 6 ∷ 9 ∷ 10 ∷ 12 ∷ []
+queries = 2 ∷ 4 ∷ 5 ∷ 6 ∷ 9 ∷ 10 ∷ 14 ∷ []
 
 pub no-change : (c : Command) → OneOf queries (tagOf the-type c) → changesNothing c ≡ true
 no-change Command.Fresh h = absurd (miss queries 0 tt h)
@@ -47,6 +47,8 @@ no-change (Command.Replay v n) h = absurd (miss queries 8 tt h)
 no-change Command.Part h = refl
 no-change (Command.Divisor c r) h = refl
 no-change (Command.Expect v room n) h = absurd (miss queries 11 tt h)
+no-change (Command.Jump n) h = absurd (miss queries 12 tt h)
+no-change (Command.JumpRun n) h = absurd (miss queries 13 tt h)
 no-change Command.Bad h = refl
 
 -- what such a command leaves, and writes
@@ -64,6 +66,8 @@ unchanged s kept ns (Command.Replay v n) h = absurd (false≢true h)
 unchanged s kept ns Command.Part h = (refl, refl, refl)
 unchanged s kept ns (Command.Divisor c r) h = (refl, refl, refl)
 unchanged s kept ns (Command.Expect v room n) h = absurd (false≢true h)
+unchanged s kept ns (Command.Jump n) h = absurd (false≢true h)
+unchanged s kept ns (Command.JumpRun n) h = absurd (false≢true h)
 unchanged s kept ns Command.Bad h = (refl, refl, refl)
 
 module _ (s : Session) (kept line ns : List ℕ) (c : Command) (e : c ≡ commandOf line) (f : ns ≡ operandsOf line) where

@@ -38,6 +38,8 @@ pub fn answer(
         Command::Fresh => current::restart(out, at),
         Command::Load => current::load(&numbers[..numbers::COUNT], kept, out, at),
         Command::Run(n) => current::ran(s, n, out, at),
+        Command::Jump(n) => current::jumped(s, n, out, at),
+        Command::JumpRun(n) => current::jump_ran(s, n, out, at),
         Command::Replay(version, n) => {
             let end = n + 1;
             current::replayed(s, version, &numbers[1..end], out, at)

@@ -48,15 +48,18 @@ slice-aggregate-put-line c = words-count _ _ (c .before .before .before .before 
 put-line-requires : tie.Need-put-line-requires
 put-line-requires c κs = words-room _ _ (c .before .before .before .before .before .before .before .before .before .before .pre .0) (c .before .before .before .before .before .expect .last .1 .1 .1 .0) (c .before .before .before .before .before .expect .kept .1 .1 .1 .0) _ _ _ _ (c .before .before .before .before .before .before .before .before .before .before .pre .1)
 
+moved-to-requires : tie.Need-moved-to-requires
+moved-to-requires c κs = search needs
+
 same-length : tie.Need-same-length
 same-length c = search needs
 
 returns : tie.Need-returns
 returns c =
-    let args = c .before .before .before .before .before .before .before .before .before .before .before .before .before .before .args in
-    let room : args .room ≤ mostRoom = c .before .before .before .before .before .before .before .before .before .before .before .before .before .before .pre .0 in
-    let e = c .before .before .before .before .before .before .before .before .before .expect .ensures .0 ∙ ap (expectOf (args .version) (args .s .state) (args .records .now)) (words-lent _ _ room) in
-    (ap (λ (w : Written). moved (args .s) (w .answer .state)) e, appended-as (ap lineOf (words-said _ _ room (c .before .before .before .before .before .before .before .before .before .expect .last .1 .1 .1 .0) (c .before .before .before .before .before .before .before .before .before .expect .kept .1 .1 .1 .0) _ _ ∙ ap writtenNumbers e)) (c .before .before .before .put-line .ensures))
+    let args = c .before .before .before .before .before .before .before .before .before .before .before .before .before .before .before .args in
+    let room : args .room ≤ mostRoom = c .before .before .before .before .before .before .before .before .before .before .before .before .before .before .before .pre .0 in
+    let e = c .before .before .before .before .before .before .before .before .before .before .expect .ensures .0 ∙ ap (expectOf (args .version) (args .s .state) (args .records .now)) (words-lent _ _ room) in
+    (c .moved-to .ensures .0 ∙ ap (λ (w : Written). moved (args .s) (w .answer .state)) e, rw (c .moved-to .ensures .1) (appended-as (ap lineOf (words-said _ _ room (c .before .before .before .before .before .before .before .before .before .before .expect .last .1 .1 .1 .0) (c .before .before .before .before .before .before .before .before .before .before .expect .kept .1 .1 .1 .0) _ _ ∙ ap writtenNumbers e)) (c .before .before .before .before .put-line .ensures)))
 
 pub expected-spec : {M : Type 1} → statement M
 expected-spec =
@@ -74,5 +77,6 @@ expected-spec =
     array-share-prefix-said
     slice-aggregate-put-line
     put-line-requires
+    moved-to-requires
     same-length
     returns)

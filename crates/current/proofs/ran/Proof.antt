@@ -4,7 +4,7 @@ use Rattle.text.specs.Decimal.{lineOf}
 use Rattle.reply.specs.Reply.{runNumbers}
 use Rattle.current.specs.Current.{moved}
 use Rattle.device.specs.declared.Ran.{Ran}
-use mathlib.Core.Path.{ap}
+use mathlib.Core.Path.{ap, _∙_}
 use borrow.Author.Needs.{needs}
 use Rattle.current.proofs.ran.Statement.{statement}
 use Rattle.current.proofs.ran.Tie as tie
@@ -15,13 +15,16 @@ run-requires c κs = tt
 put-pair-requires : tie.Need-put-pair-requires
 put-pair-requires c κs = search needs
 
+moved-to-requires : tie.Need-moved-to-requires
+moved-to-requires c κs = search needs
+
 same-length : tie.Need-same-length
-same-length c = c .before .before .before .put-pair .kept .1 .1 .0
+same-length c = c .before .before .before .before .put-pair .kept .1 .1 .0
 
 returns : tie.Need-returns
 returns c =
-    let e = c .before .before .before .before .before .run .ensures .0 in
-    (ap (λ (a : Ran). moved (c .before .before .before .before .before .before .before .before .args .s) (a .state)) e, appended-as (ap (λ (a : Ran). lineOf (runNumbers a)) e) (c .before .before .before .put-pair .ensures))
+    let e = c .before .before .before .before .before .before .run .ensures .0 in
+    (c .moved-to .ensures .0 ∙ ap (λ (a : Ran). moved (c .before .before .before .before .before .before .before .before .before .args .s) (a .state)) e, rw (c .moved-to .ensures .1) (appended-as (ap (λ (a : Ran). lineOf (runNumbers a)) e) (c .before .before .before .before .put-pair .ensures)))
 
 pub ran-spec : {M : Type 1} → statement M
-ran-spec = tie.close (tie.spec run-requires put-pair-requires same-length returns)
+ran-spec = tie.close (tie.spec run-requires put-pair-requires moved-to-requires same-length returns)

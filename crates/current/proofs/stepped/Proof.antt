@@ -26,13 +26,16 @@ put-line-requires c κs =
     let long : length (c .before .before .step-numbers .result) ≡ 8 = ap length (c .before .before .step-numbers .ensures) in
     omega (arith, line-room (c .before .before .step-numbers .result))
 
+moved-to-requires : tie.Need-moved-to-requires
+moved-to-requires c κs = search needs
+
 same-length : tie.Need-same-length
-same-length c = c .before .before .before .put-line .kept .1 .0
+same-length c = c .before .before .before .before .put-line .kept .1 .0
 
 returns : tie.Need-returns
 returns c =
-    let e = c .before .before .before .before .before .before .before .step .ensures in
-    (ap (λ (a : Answer). moved (c .before .before .before .before .before .before .before .before .before .before .args .s) (a .state)) e, appended-as (ap lineOf (c .before .before .before .before .before .before .step-numbers .ensures ∙ ap stepNumbers e)) (c .before .before .before .put-line .ensures))
+    let e = c .before .before .before .before .before .before .before .before .step .ensures in
+    (c .moved-to .ensures .0 ∙ ap (λ (a : Answer). moved (c .before .before .before .before .before .before .before .before .before .before .before .args .s) (a .state)) e, rw (c .moved-to .ensures .1) (appended-as (ap lineOf (c .before .before .before .before .before .before .before .step-numbers .ensures ∙ ap stepNumbers e)) (c .before .before .before .before .put-line .ensures)))
 
 pub stepped-spec : {M : Type 1} → statement M
 stepped-spec =
@@ -42,5 +45,6 @@ stepped-spec =
     step-numbers-requires
     slice-aggregate-put-line
     put-line-requires
+    moved-to-requires
     same-length
     returns)

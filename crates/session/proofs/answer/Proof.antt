@@ -47,9 +47,21 @@ ran-requires c κs = search needs
 enum-known-c-3 : tie.Need-enum-known-c-3
 enum-known-c-3 c = search needs
 
+jumped-requires : tie.Need-jumped-requires
+jumped-requires c κs = search needs
+
+enum-known-c-4 : tie.Need-enum-known-c-4
+enum-known-c-4 c = search needs
+
+jump-ran-requires : tie.Need-jump-ran-requires
+jump-ran-requires c κs = search needs
+
+enum-known-c-5 : tie.Need-enum-known-c-5
+enum-known-c-5 c = search needs
+
 add-end : tie.Need-add-end
 add-end c =
-    let h : c .before .c3 .given .0 .1 .0 + 1 ≤ length (c .before .before .before .before .before .before .args .numbers .now) = rw (c .before .c3 .given .1) at (c .before .before .before .before .before .before .pre .0) in
+    let h : c .before .c5 .given .0 .1 .0 + 1 ≤ length (c .before .before .before .before .before .before .args .numbers .now) = rw (c .before .c5 .given .1) at (c .before .before .before .before .before .before .pre .0) in
     omega (arith, h)
 
 sub-replayed : tie.Need-sub-replayed
@@ -59,17 +71,17 @@ part-replayed-start : tie.Need-part-replayed-start
 part-replayed-start c = search needs
 
 part-replayed-end : tie.Need-part-replayed-end
-part-replayed-end c = rw (c .before .c3 .given .1) at (c .before .before .before .before .before .before .pre .0)
+part-replayed-end c = rw (c .before .c5 .given .1) at (c .before .before .before .before .before .before .pre .0)
 
 replayed-requires : tie.Need-replayed-requires
 replayed-requires c κs = search needs
 
-enum-known-c-4 : tie.Need-enum-known-c-4
-enum-known-c-4 c = search needs
+enum-known-c-6 : tie.Need-enum-known-c-6
+enum-known-c-6 c = search needs
 
 add-end-2 : tie.Need-add-end-2
 add-end-2 c =
-    let h : c .before .c4 .given .0 .1 .1 .0 + 2 ≤ length (c .before .before .before .before .before .before .args .numbers .now) = rw (c .before .c4 .given .1) at (c .before .before .before .before .before .before .pre .0) in
+    let h : c .before .c6 .given .0 .1 .1 .0 + 2 ≤ length (c .before .before .before .before .before .before .args .numbers .now) = rw (c .before .c6 .given .1) at (c .before .before .before .before .before .before .pre .0) in
     omega (arith, h)
 
 sub-expected : tie.Need-sub-expected
@@ -79,13 +91,13 @@ part-expected-start : tie.Need-part-expected-start
 part-expected-start c = search needs
 
 part-expected-end : tie.Need-part-expected-end
-part-expected-end c = rw (c .before .c4 .given .1) at (c .before .before .before .before .before .before .pre .0)
+part-expected-end c = rw (c .before .c6 .given .1) at (c .before .before .before .before .before .before .pre .0)
 
 expected-requires : tie.Need-expected-requires
-expected-requires c κs = (rw (c .before .before .before .c4 .given .1) at (c .before .before .before .before .before .before .before .before .pre .1 .0), search needs)
+expected-requires c κs = (rw (c .before .before .before .c6 .given .1) at (c .before .before .before .before .before .before .before .before .pre .1 .0), search needs)
 
 put-answer-requires : tie.Need-put-answer-requires
-put-answer-requires c κs = (no-change (c .before .before .before .before .before .before .args .c) (c .before .before .match .keys7), search needs)
+put-answer-requires c κs = (no-change (c .before .before .before .before .before .before .args .c) (c .before .before .match .keys9), search needs)
 
 same-length : tie.Need-same-length
 same-length c = c .before .before .stepped .kept .1 .1 .0
@@ -119,33 +131,47 @@ unfolding nextOf keptOf saidOf
 returns-4 c = rw (c .before .before .before .before .before .c2 .given .1) (c .before .before .ran .ensures .0, (refl, c .before .before .ran .ensures .1))
 
 same-length-6 : tie.Need-same-length-6
-same-length-6 c = c .before .before .replayed .kept .1 .1 .1 .0
+same-length-6 c = c .before .before .jumped .kept .1 .1 .0
 
 returns-5 : tie.Need-returns-5
 unfolding nextOf keptOf saidOf
-returns-5 c =
-    let p = drop-take 1 (c .before .before .before .before .before .before .c3 .given .0 .1 .0 + 1) (c .before .before .before .before .before .before .before .before .before .before .before .args .numbers .now) in
-    rw (c .before .before .before .before .before .before .c3 .given .1) (rw p at (c .before .before .replayed .ensures .0), (refl, rw p at (c .before .before .replayed .ensures .1)))
+returns-5 c = rw (c .before .before .before .before .before .c3 .given .1) (c .before .before .jumped .ensures .0, (refl, c .before .before .jumped .ensures .1))
 
 same-length-7 : tie.Need-same-length-7
-same-length-7 c = c .before .before .expected .kept .1 .1 .1 .1 .0
+same-length-7 c = c .before .before .jump-ran .kept .1 .1 .0
 
 returns-6 : tie.Need-returns-6
 unfolding nextOf keptOf saidOf
-returns-6 c =
-    let p = drop-take 2 (c .before .before .before .before .before .before .c4 .given .0 .1 .1 .0 + 2) (c .before .before .before .before .before .before .before .before .before .before .before .args .numbers .now) in
-    rw (c .before .before .before .before .before .before .c4 .given .1) (rw p at (c .before .before .expected .ensures .0), (refl, rw p at (c .before .before .expected .ensures .1)))
+returns-6 c = rw (c .before .before .before .before .before .c4 .given .1) (c .before .before .jump-ran .ensures .0, (refl, c .before .before .jump-ran .ensures .1))
 
 same-length-8 : tie.Need-same-length-8
-same-length-8 c = search needs
-
-same-length-9 : tie.Need-same-length-9
-same-length-9 c = c .before .before .put-answer .kept .1 .1 .1 .0
+same-length-8 c = c .before .before .replayed .kept .1 .1 .1 .0
 
 returns-7 : tie.Need-returns-7
+unfolding nextOf keptOf saidOf
 returns-7 c =
+    let p = drop-take 1 (c .before .before .before .before .before .before .c5 .given .0 .1 .0 + 1) (c .before .before .before .before .before .before .before .before .before .before .before .args .numbers .now) in
+    rw (c .before .before .before .before .before .before .c5 .given .1) (rw p at (c .before .before .replayed .ensures .0), (refl, rw p at (c .before .before .replayed .ensures .1)))
+
+same-length-9 : tie.Need-same-length-9
+same-length-9 c = c .before .before .expected .kept .1 .1 .1 .1 .0
+
+returns-8 : tie.Need-returns-8
+unfolding nextOf keptOf saidOf
+returns-8 c =
+    let p = drop-take 2 (c .before .before .before .before .before .before .c6 .given .0 .1 .1 .0 + 2) (c .before .before .before .before .before .before .before .before .before .before .before .args .numbers .now) in
+    rw (c .before .before .before .before .before .before .c6 .given .1) (rw p at (c .before .before .expected .ensures .0), (refl, rw p at (c .before .before .expected .ensures .1)))
+
+same-length-10 : tie.Need-same-length-10
+same-length-10 c = search needs
+
+same-length-11 : tie.Need-same-length-11
+same-length-11 c = c .before .before .put-answer .kept .1 .1 .1 .0
+
+returns-9 : tie.Need-returns-9
+returns-9 c =
     let a = c .before .before .before .before .before .before .before .before .before .args in
-    let same = unchanged (a .s) (a .kept .now) (take (beside (a .c)) (a .numbers .now)) (a .c) (no-change (a .c) (c .before .before .before .before .before .match .keys7)) in
+    let same = unchanged (a .s) (a .kept .now) (take (beside (a .c)) (a .numbers .now)) (a .c) (no-change (a .c) (c .before .before .before .before .before .match .keys9)) in
     (same .0, (same .1, appended-as (same .2) (c .before .before .put-answer .ensures)))
 
 pub answer-spec : {M : Type 1} → statement M
@@ -162,12 +188,16 @@ answer-spec =
     enum-known-c-2
     ran-requires
     enum-known-c-3
+    jumped-requires
+    enum-known-c-4
+    jump-ran-requires
+    enum-known-c-5
     add-end
     sub-replayed
     part-replayed-start
     part-replayed-end
     replayed-requires
-    enum-known-c-4
+    enum-known-c-6
     add-end-2
     sub-expected
     part-expected-start
@@ -188,5 +218,9 @@ answer-spec =
     same-length-7
     returns-6
     same-length-8
+    returns-7
     same-length-9
-    returns-7)
+    returns-8
+    same-length-10
+    same-length-11
+    returns-9)
