@@ -12,6 +12,8 @@ use Rattle.device.specs.declared.Looked.{Looked}
 use Rattle.device.specs.declared.Forecasted.{Forecasted}
 use Rattle.device.specs.declared.Leveled.{Leveled}
 use Rattle.device.specs.declared.Ran.{Ran}
+use Rattle.device.specs.declared.Jumped.{Jumped}
+use Rattle.device.specs.declared.JumpRan.{JumpRan}
 use Rattle.capture.specs.declared.Values.{Values}
 use Rattle.client.specs.declared.Replay.{Replay}
 use Rattle.client.specs.declared.file.Progress.{Progress}
@@ -136,6 +138,12 @@ expectedShape = structOf (byte ∷ byte ∷ index ∷ stateShape ∷ [])
 abbrev pub expectProgressShape : Shape
 expectProgressShape = structOf (byte ∷ byte ∷ word ∷ index ∷ stateShape ∷ [])
 
+abbrev pub jumpedShape : Shape
+jumpedShape = structOf (byte ∷ byte ∷ word ∷ stateShape ∷ [])
+
+abbrev pub jumpRanShape : Shape
+jumpRanShape = structOf (byte ∷ byte ∷ word ∷ word ∷ stateShape ∷ [])
+
 -- the sizes of the structs that a caller has
 abbrev pub sizes : Sizes
 sizes =
@@ -151,6 +159,8 @@ sizes =
       picked = pickedShape .size;
       expected = expectedShape .size;
       expecting = expectProgressShape .size;
+      jumped = jumpedShape .size;
+      jumpran = jumpRanShape .size;
     }
 
 -- The specimens.
@@ -230,3 +240,10 @@ expectProgressSpecimen =
       count = eightTimes 116;
       state = stateSpecimen;
     }
+
+abbrev pub jumpedSpecimen : Jumped
+jumpedSpecimen = record { number = 100; part = 113; jumps = fourTimes 117; state = stateSpecimen }
+
+abbrev pub jumpRanSpecimen : JumpRan
+jumpRanSpecimen =
+    record { number = 100; part = 113; used = fourTimes 101; jumps = fourTimes 117; state = stateSpecimen }

@@ -8,7 +8,7 @@
 // seen are field 101; the output pins are fields 102..107; a replay's byte of the model is field 108,
 // its place field 109; a file's version, what stopped it and the records done are fields 110..112; the
 // part of the state that is bad is field 113; a divisor and its error are fields 114 and 115; the words
-// that were written are field 116.
+// that were written are field 116; the jumps made are field 117.
 use capture::Values;
 use client::Replay;
 use client::file::Progress;
@@ -18,6 +18,8 @@ use device::FifoControl;
 use device::Forecasted;
 use device::Frame;
 use device::Inputs;
+use device::JumpRan;
+use device::Jumped;
 use device::Latches;
 use device::Leveled;
 use device::Looked;
@@ -33,7 +35,7 @@ use queue::EntryQueue;
 use queue::Errors;
 use rate::Picked;
 ghost use mathlib.Core.Path.{_≡_};
-ghost use Rattle.export.specs.Layout.{sizes, stateSpecimen, answerSpecimen, lookedSpecimen, forecastedSpecimen, leveledSpecimen, ranSpecimen, valuesSpecimen, replayedSpecimen, progressSpecimen, pickedSpecimen, expectedSpecimen, expectProgressSpecimen};
+ghost use Rattle.export.specs.Layout.{sizes, stateSpecimen, answerSpecimen, lookedSpecimen, forecastedSpecimen, leveledSpecimen, ranSpecimen, valuesSpecimen, replayedSpecimen, progressSpecimen, pickedSpecimen, expectedSpecimen, expectProgressSpecimen, jumpedSpecimen, jumpRanSpecimen};
 
 // The sizes in bytes.
 #[repr(C)]
@@ -49,6 +51,8 @@ pub struct Sizes {
     pub picked: u32,
     pub expected: u32,
     pub expecting: u32,
+    pub jumped: u32,
+    pub jumpran: u32,
 }
 
 #[no_mangle]
@@ -67,6 +71,8 @@ pub extern "C" fn uart_sizes_of_structs() -> Sizes
         picked: 12,
         expected: 400,
         expecting: 400,
+        jumped: 388,
+        jumpran: 392,
     }
 }
 
@@ -181,6 +187,37 @@ pub extern "C" fn uart_specimen_ran() -> Ran
         part: 113,
         used: 0x65656565,
         state: uart_specimen_state(),
+    }
+}
+
+// As run's, with the jumps for the ticks used.
+#[no_mangle]
+pub extern "C" fn uart_specimen_jumped() -> Jumped
+    ensures { λ r. ⌜ r ≡ jumpedSpecimen ⌝ }
+{
+    let r = uart_specimen_jump_ran();
+    let state = r.state;
+    Jumped {
+        number: r.number,
+        part: r.part,
+        jumps: r.jumps,
+        state,
+    }
+}
+
+// As run's, with the jumps behind the ticks used.
+#[no_mangle]
+pub extern "C" fn uart_specimen_jump_ran() -> JumpRan
+    ensures { λ r. ⌜ r ≡ jumpRanSpecimen ⌝ }
+{
+    let r = uart_specimen_ran();
+    let state = r.state;
+    JumpRan {
+        number: r.number,
+        part: r.part,
+        used: r.used,
+        jumps: 0x75757575,
+        state,
     }
 }
 

@@ -1,7 +1,7 @@
 // The calls for programs in C, Rust and other languages, under plain names: `rt staticlib export`
 // makes the library that they link. The structs go by value, a run of records as its address and
-// length, and each call has the contract of the call of `uart`, `foretell`, `client`, `expected`,
-// `expected_file` or `rate` that it hands on.
+// length, and each call has the contract of the call of `uart`, `foretell`, `jump`, `client`,
+// `expected`, `expected_file` or `rate` that it hands on.
 // clients/tl16c750.h declares the same for C.
 pub mod layout;
 
@@ -11,6 +11,8 @@ use client::file;
 use client::file::Progress;
 use device::Answer;
 use device::Forecasted;
+use device::JumpRan;
+use device::Jumped;
 use device::Leveled;
 use device::Looked;
 use device::Ran;
@@ -25,6 +27,7 @@ ghost use Rattle.device.specs.State.{freshOf};
 ghost use Rattle.device.specs.Calls.{resetOf, readOf, writeOf, sinOf, modemOf, tickOf, ticksOf, ticksAnswer, pinsOf};
 ghost use Rattle.device.specs.Transmitter.{line};
 ghost use Rattle.device.specs.Forecast.{forecastOf, levelOf, runOf, Foretold, StopsInTime};
+ghost use Rattle.device.specs.Jump.{jumpOf, jumpRunOf};
 ghost use Rattle.capture.specs.Replay.{agreed as «agreed-in», replayOf, Agrees};
 ghost use Rattle.capture.specs.Replay.{refused as «refused-at»};
 ghost use Rattle.expected.specs.Expected.{expectOf};
@@ -43,16 +46,16 @@ pub struct Versions {
     pub layout: u32,
 }
 
-// Which library this is: 0.6.0, with the fifth layout.
+// Which library this is: 0.7.0, with the sixth layout.
 #[no_mangle]
 pub extern "C" fn uart_version() -> Versions
-    ensures { λ r. ⌜ r ≡ record { major = 0; minor = 6; patch = 0; layout = 5 } ⌝ }
+    ensures { λ r. ⌜ r ≡ record { major = 0; minor = 7; patch = 0; layout = 6 } ⌝ }
 {
     Versions {
         major: 0,
-        minor: 6,
+        minor: 7,
         patch: 0,
-        layout: 5,
+        layout: 6,
     }
 }
 
@@ -95,6 +98,25 @@ pub extern "C" fn uart_run(s: State, n: u32) -> Ran
     ensures in_time { λ r. ⌜ (r .number ≡ 0 → StopsInTime s n (r .used)) ⌝ }
 {
     foretell::run(s, n)
+}
+
+// n ticks by jumps from pulse to pulse.
+#[no_mangle]
+pub extern "C" fn uart_jump(s: State, n: u32) -> Jumped
+    ensures outcome { λ r. ⌜ r ≡ jumpOf s n ⌝ }
+    ensures at_most { λ r. ⌜ (1 ≤ s .baud .divisor → r .jumps ≤ 2 + n / s .baud .divisor) ⌝ }
+{
+    jump::jump(s, n)
+}
+
+// At most n ticks by jumps, until queue and shift register are both empty.
+#[no_mangle]
+pub extern "C" fn uart_jump_run(s: State, n: u32) -> JumpRan
+    ensures outcome { λ r. ⌜ r ≡ jumpRunOf s n ⌝ }
+    ensures as_run { λ r. ⌜ record { number = r .number; part = r .part; used = r .used; state = r .state } ≡ runOf s n ⌝ }
+    ensures at_most { λ r. ⌜ (1 ≤ s .baud .divisor → r .jumps ≤ 2 + n / s .baud .divisor) ⌝ }
+{
+    jump::run(s, n)
 }
 
 // A register read at an address.
