@@ -36,9 +36,9 @@ extern "C" {
 
 /* The version that this header is of; UART_LAYOUT changes where a struct does. */
 #define UART_VERSION_MAJOR 0
-#define UART_VERSION_MINOR 6
+#define UART_VERSION_MINOR 7
 #define UART_VERSION_PATCH 0
-#define UART_LAYOUT 5
+#define UART_LAYOUT 6
 
 /* The numbers answered; where two apply, the lower. */
 #define UART_DONE 0
@@ -224,6 +224,23 @@ struct uart_ran {
     struct uart_state state;
 };
 
+/* What ticks by jumps answer: the jumps made, and the state after them. */
+struct uart_jumped {
+    uint8_t number;
+    uint8_t part;
+    uint32_t jumps;
+    struct uart_state state;
+};
+
+/* What run by jumps answers: the ticks used, the jumps made, and the state after them. */
+struct uart_jump_ran {
+    uint8_t number;
+    uint8_t part;
+    uint32_t used;
+    uint32_t jumps;
+    struct uart_state state;
+};
+
 /* How a replay ended: number and part, the byte seen, the model's byte, the record's place. */
 struct uart_values {
     uint8_t number;
@@ -309,6 +326,17 @@ struct uart_leveled uart_level(struct uart_state s, uint32_t t);
 
 /* At most n ticks, until the transmitter is empty. */
 struct uart_ran uart_run(struct uart_state s, uint32_t n);
+
+/*
+ * The same ticks by jumps from pulse to pulse. The state that uart_jump answers is that of n single ticks;
+ * uart_jump_run answers number, part, ticks used and state as uart_run does, and looks before each jump
+ * whether the transmitter is empty (LSR bit 6).
+ * `jumps` is how many were made: a jump ends at a pulse, or at n when the rest falls short of one. With
+ * divisor 5 and k 3, n of 2, 3, 4, 8 and 9 make 1, 1, 2, 2 and 3. For n 0 there is none; with divisor 0,
+ * where no pulse comes, one of all n ticks; with a divisor D above 0 at most 2 + n / D.
+ */
+struct uart_jumped uart_jump(struct uart_state s, uint32_t n);
+struct uart_jump_ran uart_jump_run(struct uart_state s, uint32_t n);
 
 /*
  * The divisor for a rate: of those from 1 to 65535 the one with the smallest distance between clock and
@@ -528,9 +556,10 @@ static inline int uart_expect_file(FILE *in, FILE *out, struct uart_expect_progr
  * The library's own layout: the size of each struct, and a specimen of each in which every byte of
  * a field is the field's number. The state's fields are numbered from 1 in the order above
  * (UART_STATE_FIELDS; an entry's are 18..21). The answers' own fields are numbered from 100: the
- * number answered is 100, the part beside it 113, the field after these 101, the output pins 102..107,
- * the model's byte and the place of a replay 108 and 109, a file's version, what stopped it and the
- * records done 110..112, a divisor and its error 114 and 115, the words or records written 116.
+ * number answered is 100, the part beside it 113; the byte, the ticks, the level, the ticks used and the
+ * byte seen 101; the output pins 102..107, the model's byte and the place of a replay 108 and 109, a
+ * file's version, what stopped it and the records done 110..112, a divisor and its error 114 and 115, the
+ * words or records written 116, the jumps 117.
  */
 struct uart_sizes {
     uint32_t state;
@@ -544,6 +573,8 @@ struct uart_sizes {
     uint32_t picked;
     uint32_t expected;
     uint32_t expect_progress;
+    uint32_t jumped;
+    uint32_t jump_ran;
 };
 
 struct uart_sizes uart_sizes_of_structs(void);
@@ -558,6 +589,8 @@ struct uart_progress uart_specimen_progress(void);
 struct uart_picked uart_specimen_picked(void);
 struct uart_expected uart_specimen_expected(void);
 struct uart_expect_progress uart_specimen_expect_progress(void);
+struct uart_jumped uart_specimen_jumped(void);
+struct uart_jump_ran uart_specimen_jump_ran(void);
 
 #define UART_AT(type, field, place) \
     UART_STATIC_ASSERT(offsetof(struct type, field) == (place), #type "." #field)
@@ -674,6 +707,19 @@ UART_AT(uart_expect_progress, part, 1);
 UART_AT(uart_expect_progress, version, 4);
 UART_AT(uart_expect_progress, count, 8);
 UART_AT(uart_expect_progress, state, 16);
+
+UART_STATIC_ASSERT(sizeof(struct uart_jumped) == 388, "uart_jumped");
+UART_AT(uart_jumped, number, 0);
+UART_AT(uart_jumped, part, 1);
+UART_AT(uart_jumped, jumps, 4);
+UART_AT(uart_jumped, state, 8);
+
+UART_STATIC_ASSERT(sizeof(struct uart_jump_ran) == 392, "uart_jump_ran");
+UART_AT(uart_jump_ran, number, 0);
+UART_AT(uart_jump_ran, part, 1);
+UART_AT(uart_jump_ran, used, 4);
+UART_AT(uart_jump_ran, jumps, 8);
+UART_AT(uart_jump_ran, state, 12);
 
 #define UART_SAME(field, place, number) memcmp(&a->field, &b->field, sizeof a->field) == 0 &&
 

@@ -1,7 +1,8 @@
 /*
  * Sends a message, clears the transmit FIFO in the middle of a character, and prints what left the
- * line: the character that had begun is finished, as the part finishes it. Then replays a capture of
- * the same, from records and from a file, and writes the one that is expected where a read differs.
+ * line: the character that had begun is finished, as the part finishes it. Then sends a character by
+ * jumps, replays a capture of the same, from records and from a file, and writes the one that is
+ * expected where a read differs.
  */
 #include "tl16c750.h"
 
@@ -203,6 +204,32 @@ static void print_expected_file(FILE *file)
     print_file(expected);
 }
 
+/* Sends a character at the largest divisor, where nearly all ticks only bring the next pulse nearer. */
+static void print_jumps(void)
+{
+    struct uart_jump_ran r;
+
+    uart = uart_fresh();
+    write_register(UART_LCR, 0x83);
+    write_register(UART_DLL, 0xFF);
+    write_register(UART_DLM, 0xFF);
+    write_register(UART_LCR, 0x03);
+    write_register(UART_THR, 'H');
+    r = uart_jump_run(uart, UINT32_MAX);
+    printf("by jumps: number %d, %" PRIu32 " ticks, %" PRIu32 " jumps\n", r.number, r.used, r.jumps);
+}
+
+static void print_refusals(void)
+{
+    struct uart_looked looked;
+
+    printf("read of register 8: number %d\n", uart_read(uart, 8).number);
+    printf("SIN at 2: number %d\n", uart_set_sin(uart, 2).number);
+    memset(uart.tx.bytes, 0xFF, sizeof uart.tx.bytes);
+    looked = uart_pins(uart);
+    printf("pins of a damaged state: number %d, part %d\n", looked.number, looked.part);
+}
+
 /* A character is on the line when the transmit FIFO is cleared; LSR is read then. */
 static void replay_captures(void)
 {
@@ -233,7 +260,6 @@ int main(void)
 {
     const char *message = "HELLO, BEAM";
     struct uart_state before;
-    struct uart_looked looked;
     uint32_t from;
     uint32_t left;
 
@@ -263,11 +289,8 @@ int main(void)
     printf("levels as foretold: %s\n", foretold(before, from) ? "yes" : "no");
     print_line();
 
-    printf("read of register 8: number %d\n", uart_read(uart, 8).number);
-    printf("SIN at 2: number %d\n", uart_set_sin(uart, 2).number);
-    memset(uart.tx.bytes, 0xFF, sizeof uart.tx.bytes);
-    looked = uart_pins(uart);
-    printf("pins of a damaged state: number %d, part %d\n", looked.number, looked.part);
+    print_refusals();
+    print_jumps();
     replay_captures();
     return EXIT_SUCCESS;
 }

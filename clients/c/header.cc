@@ -1,4 +1,5 @@
-// The header in C++: a call of each kind, the file calls, an expected capture, a divisor, a refused state.
+// The header in C++: a call of each kind, the file calls, an expected capture, a divisor, jumps, a refused
+// state.
 #include "tl16c750.h"
 
 #include <cstdint>
@@ -41,7 +42,8 @@ int main()
     return answer.values.number == UART_DONE && answer.values.seen == answer.values.model &&
                    uart_equal(&answer.state, &fresh) && uart_read(fresh, UART_LSR).byte == 0x60 &&
                    uart_expect(fresh, 1, &read, 1, &word, 1).count == 1 && word == 0x10000560 &&
-                   uart_divisor_for(3072000, 7200).error == -12345 &&
+                   uart_divisor_for(3072000, 7200).error == -12345 && uart_jump(fresh, 5).jumps == 1 &&
+                   uart_jump_run(fresh, 5).jumps == 0 &&
                    uart_pins(damaged).part == UART_IN_SETTINGS && uart_version().layout == UART_LAYOUT
                ? EXIT_SUCCESS
                : EXIT_FAILURE;

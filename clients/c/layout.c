@@ -79,6 +79,23 @@ static void check_expect_progress(struct uart_expect_progress p)
     check_state(p.state);
 }
 
+static void check_jumped(struct uart_jumped j)
+{
+    HAS(j, number, 100);
+    HAS(j, part, 113);
+    HAS(j, jumps, 117);
+    check_state(j.state);
+}
+
+static void check_jump_ran(struct uart_jump_ran r)
+{
+    HAS(r, number, 100);
+    HAS(r, part, 113);
+    HAS(r, used, 101);
+    HAS(r, jumps, 117);
+    check_state(r.state);
+}
+
 static void check_specimens(void)
 {
     struct uart_answer answer = uart_specimen_answer();
@@ -86,8 +103,6 @@ static void check_specimens(void)
     struct uart_forecasted forecasted = uart_specimen_forecasted();
     struct uart_leveled leveled = uart_specimen_leveled();
     struct uart_ran ran = uart_specimen_ran();
-    struct uart_replayed replayed = uart_specimen_replayed();
-    struct uart_progress progress = uart_specimen_progress();
 
     check_state(uart_specimen_state());
     HAS(answer, number, 100);
@@ -108,6 +123,16 @@ static void check_specimens(void)
     HAS(ran, part, 113);
     HAS(ran, used, 101);
     check_state(ran.state);
+    check_jumped(uart_specimen_jumped());
+    check_jump_ran(uart_specimen_jump_ran());
+    check_picked(uart_specimen_picked());
+}
+
+static void check_capture_specimens(void)
+{
+    struct uart_replayed replayed = uart_specimen_replayed();
+    struct uart_progress progress = uart_specimen_progress();
+
     check_values(replayed.values);
     check_state(replayed.state);
     HAS(progress, version, 110);
@@ -115,7 +140,6 @@ static void check_specimens(void)
     HAS(progress, done, 112);
     check_values(progress.values);
     check_state(progress.state);
-    check_picked(uart_specimen_picked());
     check_expected(uart_specimen_expected());
     check_expect_progress(uart_specimen_expect_progress());
 }
@@ -135,6 +159,8 @@ static void check_sizes(void)
     expect(sizes.picked == sizeof(struct uart_picked), "size of picked");
     expect(sizes.expected == sizeof(struct uart_expected), "size of expected");
     expect(sizes.expect_progress == sizeof(struct uart_expect_progress), "size of expect_progress");
+    expect(sizes.jumped == sizeof(struct uart_jumped), "size of jumped");
+    expect(sizes.jump_ran == sizeof(struct uart_jump_ran), "size of jump_ran");
 }
 
 /* A state handed in reaches the library field by field: what it is refused for, and what not. */
@@ -321,6 +347,8 @@ static void check_any_memory(void)
         expect(a.number == UART_MALFORMED, "a state of noise");
         expect(memcmp(a.state.tx.bytes, s.tx.bytes, sizeof s.tx.bytes) == 0, "noise back");
         expect(uart_run(s, UINT32_MAX).used == 0, "run of noise");
+        expect(uart_jump(s, UINT32_MAX).jumps == 0, "jump of noise");
+        expect(uart_jump_run(s, UINT32_MAX).jumps == 0, "run of noise by jumps");
         expect(uart_replay(s, 1, &x, 1).values.number == UART_MALFORMED, "replay from noise");
         expect(uart_expect(s, 1, &x, 1, NULL, 0).number == UART_MALFORMED, "words from noise");
     }
@@ -330,6 +358,7 @@ int main(void)
 {
     check_sizes();
     check_specimens();
+    check_capture_specimens();
     check_parameters();
     check_records();
     check_words();

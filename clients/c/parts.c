@@ -70,6 +70,8 @@ static void refused(struct uart_state s, uint8_t part, const char *what)
     REFUSED(uart_forecast(s));
     REFUSED(uart_level(s, 0));
     REFUSED(uart_run(s, 1000));
+    REFUSED(uart_jump(s, 1000));
+    REFUSED(uart_jump_run(s, 1000));
     REFUSED(uart_replay(s, 0, &bad, 1).values);
     REFUSED(uart_replay_more(p, tick, sizeof tick).values);
     REFUSED(uart_replay_end(p, tick, sizeof tick).values);
@@ -186,6 +188,8 @@ static void check_other_numbers(void)
     ANSWERS(uart_forecast(s), UART_HELD_BACK);
     ANSWERS(uart_level(s, 0), UART_HELD_BACK);
     ANSWERS(uart_run(s, 1000), UART_DONE);
+    ANSWERS(uart_jump(s, 1000), UART_DONE);
+    ANSWERS(uart_jump_run(s, 1000), UART_DONE);
     ANSWERS(uart_replay(s, 0, &bad, 1).values, UART_UNKNOWN_VERSION);
     ANSWERS(uart_replay(s, 1, &bad, 1).values, UART_BAD_RECORD);
     ANSWERS(uart_replay(s, 1, &bad, 0).values, UART_DONE);
