@@ -1,8 +1,11 @@
 // Sends a message, clears the transmit FIFO in the middle of a character, and prints what left the
-// line: the character that had begun is finished, as the part finishes it. Then replays a capture of
-// the same, from records and from a file, and writes the one that is expected where a read differs.
+// line: the character that had begun is finished, as the part finishes it. Then sends a character by
+// jumps, replays a capture of the same, from records and from a file, and writes the one that is
+// expected where a read differs.
 use std::error::Error;
-use tl16c750::{divisor_for, Expected, Picked, Refusal, Told, Uart, DLL, DLM, FCR, LCR, LSR, THR};
+use tl16c750::{
+    divisor_for, Expected, JumpRan, Picked, Refusal, Told, Uart, DLL, DLM, FCR, LCR, LSR, THR,
+};
 
 const PULSES_PER_BIT: usize = 16; // and a tick is a pulse: the divisor is 1
 const BITS_PER_FRAME: usize = 10; // start, eight data bits, stop
@@ -109,6 +112,23 @@ fn print_expected_file(file: &[u8]) -> std::io::Result<()> {
     print_file(&expected)
 }
 
+// Sends a character at the largest divisor, where nearly all ticks only bring the next pulse nearer.
+fn print_jumps() -> Result<(), Refusal> {
+    let mut uart = Uart::fresh();
+    for (address, byte) in [
+        (LCR, 0x83),
+        (DLL, 0xFF),
+        (DLM, 0xFF),
+        (LCR, 0x03),
+        (THR, b'H'),
+    ] {
+        uart.write(address, byte)?;
+    }
+    let JumpRan { used, jumps } = uart.jump_run(u32::MAX)?;
+    println!("by jumps: number 0, {used} ticks, {jumps} jumps");
+    Ok(())
+}
+
 // A character is on the line when the transmit FIFO is cleared; LSR is read then.
 fn replay_captures() -> std::io::Result<()> {
     let mut records = [
@@ -177,6 +197,7 @@ fn main() -> Result<(), Box<dyn Error>> {
         let part = part.map_or(0, |part| part as u8);
         println!("pins of a damaged state: number {number}, part {part}");
     }
+    print_jumps()?;
     replay_captures()?;
     Ok(())
 }

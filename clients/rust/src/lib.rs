@@ -209,6 +209,15 @@ pub fn divisor_for(clock: u32, rate: u32) -> Result<Picked, Refusal> {
     done(number, 0, Picked { divisor, error })
 }
 
+/// What a run by jumps used.
+#[derive(Clone, Copy, Debug, PartialEq, Eq, Hash)]
+pub struct JumpRan {
+    /// The ticks, as [`Uart::run`] has them.
+    pub used: u32,
+    /// The jumps, counted as [`Uart::jump`] counts them.
+    pub jumps: u32,
+}
+
 /// How a replay ended. Places count from 0 at the first record.
 #[derive(Clone, Copy, Debug, PartialEq, Eq, Hash)]
 pub enum Outcome {
@@ -362,6 +371,55 @@ impl Uart {
         let used = done(ran.number, ran.part, ran.used)?;
         self.state = ran.state;
         Ok(used)
+    }
+
+    /// n ticks by jumps from pulse to pulse: the jumps made. The state is that of n single ticks.
+    ///
+    /// A jump ends at a pulse, or at n when the rest falls short of one. For n 0 there is none; with
+    /// divisor 0, where no pulse comes, one of all n ticks; with a divisor D above 0 at most 2 + n / D.
+    ///
+    /// ```
+    /// use tl16c750::{Baud, Uart};
+    /// let mut uart = Uart::fresh();
+    /// uart.state.baud = Baud { divisor: 5, k: 3 };
+    /// assert_eq!(uart.jump(9)?, 3); // of 3, 5 and 1 ticks
+    /// assert_eq!(uart.state.baud.k, 4);
+    /// # Ok::<(), tl16c750::Refusal>(())
+    /// ```
+    pub fn jump(&mut self, n: u32) -> Result<u32, Refusal> {
+        let jumped = raw::uart_jump(self.state, n);
+        let jumps = done(jumped.number, jumped.part, jumped.jumps)?;
+        self.state = jumped.state;
+        Ok(jumps)
+    }
+
+    /// At most n ticks by jumps, until queue and shift register are both empty: the ticks used and the
+    /// jumps made. Ticks and state are those of [`run`](Uart::run).
+    ///
+    /// Before each jump it is looked whether queue and shift register are empty (LSR bit 6), so that
+    /// there is none where they already are. With work left and divisor 0 there is one of all n ticks.
+    ///
+    /// ```
+    /// use tl16c750::{JumpRan, Uart, DLM, LCR, THR};
+    /// let mut uart = Uart::fresh();
+    /// for (address, byte) in [(LCR, 0x83), (DLM, 0xFF), (LCR, 0x03), (THR, b'A')] {
+    ///     uart.write(address, byte)?;
+    /// }
+    /// let JumpRan { used, jumps } = uart.jump_run(u32::MAX)?;
+    /// assert_eq!((used, jumps), (161 * 0xFF00, 161));
+    /// # Ok::<(), tl16c750::Refusal>(())
+    /// ```
+    pub fn jump_run(&mut self, n: u32) -> Result<JumpRan, Refusal> {
+        let raw::JumpRan {
+            number,
+            part,
+            used,
+            jumps,
+            state,
+        } = raw::uart_jump_run(self.state, n);
+        let ran = done(number, part, JumpRan { used, jumps })?;
+        self.state = state;
+        Ok(ran)
     }
 
     /// A replay of records of a capture, up to the first read whose byte differs from the model's.

@@ -256,6 +256,36 @@ pub struct Ran {
     pub state: State,
 }
 
+/// What ticks by jumps answer.
+#[repr(C)]
+#[derive(Clone, Copy, Debug, PartialEq, Eq, Hash)]
+pub struct Jumped {
+    /// 0, or the number of a refusal.
+    pub number: u8,
+    /// The part of the state that is bad; 0 with another number than 1.
+    pub part: u8,
+    /// The jumps made.
+    pub jumps: u32,
+    /// The state after them.
+    pub state: State,
+}
+
+/// What run by jumps answers.
+#[repr(C)]
+#[derive(Clone, Copy, Debug, PartialEq, Eq, Hash)]
+pub struct JumpRan {
+    /// 0, or the number of a refusal.
+    pub number: u8,
+    /// The part of the state that is bad; 0 with another number than 1.
+    pub part: u8,
+    /// The ticks used.
+    pub used: u32,
+    /// The jumps made.
+    pub jumps: u32,
+    /// The state after them.
+    pub state: State,
+}
+
 /// How a replay ended: number and part, the byte seen, the model's byte, the record's place.
 #[repr(C)]
 #[derive(Clone, Copy, Debug, PartialEq, Eq, Hash)]
@@ -355,7 +385,7 @@ pub struct Versions {
 }
 
 /// The layout of the structs that this crate is written for.
-pub const LAYOUT: u32 = 5;
+pub const LAYOUT: u32 = 6;
 
 /// The library's own size of each struct, in bytes.
 #[repr(C)]
@@ -383,6 +413,10 @@ pub struct Sizes {
     pub expected: u32,
     /// Of [`ExpectProgress`].
     pub expect_progress: u32,
+    /// Of [`Jumped`].
+    pub jumped: u32,
+    /// Of [`JumpRan`].
+    pub jump_ran: u32,
 }
 
 // SAFETY: the signatures are those of crates/export, and no safe call has a condition on what it is
@@ -414,6 +448,10 @@ unsafe extern "C" {
     pub safe fn uart_level(s: State, t: u32) -> Leveled;
     /// At most n ticks, until queue and shift register are both empty.
     pub safe fn uart_run(s: State, n: u32) -> Ran;
+    /// n ticks by jumps from pulse to pulse.
+    pub safe fn uart_jump(s: State, n: u32) -> Jumped;
+    /// At most n ticks by jumps, until queue and shift register are both empty.
+    pub safe fn uart_jump_run(s: State, n: u32) -> JumpRan;
     /// The divisor for a rate.
     pub safe fn uart_divisor_for(clock: u32, rate: u32) -> Picked;
     /// A replay of records.
@@ -502,4 +540,8 @@ unsafe extern "C" {
     pub safe fn uart_specimen_expected() -> Expected;
     /// A specimen of [`ExpectProgress`]: every byte of a field is the field's number.
     pub safe fn uart_specimen_expect_progress() -> ExpectProgress;
+    /// A specimen of [`Jumped`]: every byte of a field is the field's number.
+    pub safe fn uart_specimen_jumped() -> Jumped;
+    /// A specimen of [`JumpRan`]: every byte of a field is the field's number.
+    pub safe fn uart_specimen_jump_ran() -> JumpRan;
 }

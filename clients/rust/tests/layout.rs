@@ -183,6 +183,25 @@ fn fields_lie_as_in_the_specimens() {
             state: state()
         }
     );
+    assert_eq!(
+        uart_specimen_jumped(),
+        Jumped {
+            number: 100,
+            part: 113,
+            jumps: four(117),
+            state: state()
+        }
+    );
+    assert_eq!(
+        uart_specimen_jump_ran(),
+        JumpRan {
+            number: 100,
+            part: 113,
+            used: four(101),
+            jumps: four(117),
+            state: state()
+        }
+    );
 }
 
 #[test]
@@ -199,6 +218,8 @@ fn sizes_are_the_librarys() {
     assert_eq!(sizes.picked as usize, size_of::<Picked>());
     assert_eq!(sizes.expected as usize, size_of::<Expected>());
     assert_eq!(sizes.expect_progress as usize, size_of::<ExpectProgress>());
+    assert_eq!(sizes.jumped as usize, size_of::<Jumped>());
+    assert_eq!(sizes.jump_ran as usize, size_of::<JumpRan>());
 }
 
 #[test]

@@ -53,6 +53,8 @@ fn every_call_tells_the_part() {
         assert_eq!(uart.forecast(), Err(refusal));
         assert_eq!(uart.level(0), Err(refusal));
         assert_eq!(uart.run(1000), Err(refusal));
+        assert_eq!(uart.jump(1000), Err(refusal));
+        assert_eq!(uart.jump_run(1000), Err(refusal));
         let refused = Outcome::Refused { refusal, place: 0 };
         assert_eq!(uart.replay(1, &[1]), refused);
         let (count, refusal) = (0, Some(refusal));
