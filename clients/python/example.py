@@ -1,6 +1,7 @@
 """Sends a message, clears the transmit FIFO in the middle of a character, and prints what left the
-line: the character that had begun is finished, as the part finishes it. Then replays a capture of
-the same, from records and from a file, and writes the one that is expected where a read differs."""
+line: the character that had begun is finished, as the part finishes it. Then sends a character by
+jumps, replays a capture of the same, from records and from a file, and writes the one that is
+expected where a read differs."""
 import io
 import struct
 
@@ -106,6 +107,15 @@ def print_expected_file(file):
     print_file(expected)
 
 
+def print_jumps():
+    """Sends a character at the largest divisor, where nearly all ticks only bring the next pulse nearer."""
+    uart = Uart()
+    for address, byte in (LCR, 0x83), (DLL, 0xFF), (DLM, 0xFF), (LCR, 0x03), (THR, ord("H")):
+        uart.write(address, byte)
+    used, jumps = uart.jump_run(0xFFFFFFFF)
+    print(f"by jumps: number 0, {used} ticks, {jumps} jumps")
+
+
 def replay_captures():
     """A character is on the line when the transmit FIFO is cleared; LSR is read then."""
     records = [
@@ -169,6 +179,7 @@ def main():
     uart.state.tx.bytes = [0xFF] * PLACES
     damaged = refusal_of(lambda: uart.pins)
     print(f"pins of a damaged state: number {damaged.number}, part {damaged.part}")
+    print_jumps()
     replay_captures()
 
 

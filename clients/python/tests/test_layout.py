@@ -10,6 +10,8 @@ from tl16c750.structs import (
     Expected,
     ExpectProgress,
     Forecasted,
+    Jumped,
+    JumpRan,
     Leveled,
     Looked,
     Picked,
@@ -82,6 +84,8 @@ SPECIMENS = {
         "count": eight(116),
         "state": STATE,
     },
+    Jumped: {"number": 100, "part": 113, "jumps": four(117), "state": STATE},
+    JumpRan: {"number": 100, "part": 113, "used": four(101), "jumps": four(117), "state": STATE},
 }
 
 

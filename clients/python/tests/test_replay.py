@@ -281,6 +281,8 @@ SLOW = [0x20000380, 0x20000001, 0x20000303] + [0x0000FFFF] * 1_000_000
 LONG_WORK = {
     "ticks": (fast, lambda u: u.tick(0xFFFFFFFF)),
     "run": (held, lambda u: u.run(0xFFFFFFFF)),
+    "jumps": (fast, lambda u: u.jump(0xFFFFFFFF)),
+    "run by jumps": (held, lambda u: u.jump_run(0xFFFFFFFF)),
     "records": (fast, lambda u: u.replay(1, itertools.repeat(0x0000FFFF))),
     "file": (fast, lambda u: u.replay_file(io.BytesIO(file_of(SLOW)))),
     "expected records": (fast, lambda u: u.expect(1, itertools.repeat(0x0000FFFF))),

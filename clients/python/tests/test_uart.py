@@ -266,6 +266,8 @@ class Refusals(unittest.TestCase):
                 u.forecast,
                 lambda: u.level(0),
                 lambda: u.run(5),
+                lambda: u.jump(5),
+                lambda: u.jump_run(5),
                 lambda: u.replay(1, []),
             ):
                 refusal = self.refusal(call)
@@ -307,11 +309,11 @@ class Refusals(unittest.TestCase):
         self.assertEqual(str(Refused(99)), "refused (number 99)")
 
     def test_pieces_do_not_show(self):
-        n = 3 * uart._TICKS + 5
+        n = 3 * uart._PULSES + 5
         u, v = Uart(), Uart()
         for each in (u, v):
             each.write(LCR, 0x80)
-            each.write(1, 255)
+            each.write(0, 1)
             each.write(LCR, 0x03)
             each.write(THR, 65)
         u.tick(n)

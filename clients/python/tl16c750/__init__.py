@@ -10,6 +10,10 @@
     >>> divisor_for(3_072_000, 7200)
     Picked(divisor=27, error=-12345)
 
+    >>> uart.state.baud = 5, 3  # the divisor, and the ticks to the next pulse
+    >>> uart.jump(9)  # jumps of 3, 5 and 1 ticks
+    3
+
     >>> words = Uart().expect(1, [0x2000075A, 0x100007FF])  # SCR: 5A written, FF seen
     >>> [f"{word:08X}" for word in words]
     ['2000075A', '1000075A']
@@ -65,6 +69,7 @@ from .uart import (
     THR,
     UNKNOWN_VERSION,
     Difference,
+    JumpRan,
     Picked,
     Refused,
     Uart,
@@ -110,6 +115,7 @@ __all__ = [
     "FifoControl",
     "Frame",
     "Inputs",
+    "JumpRan",
     "Latches",
     "Outputs",
     "Picked",

@@ -13,6 +13,8 @@ from .structs import (
     Expected,
     ExpectProgress,
     Forecasted,
+    Jumped,
+    JumpRan,
     Leveled,
     Looked,
     Picked,
@@ -25,7 +27,7 @@ from .structs import (
     Versions,
 )
 
-LAYOUT = 5
+LAYOUT = 6
 """The layout of the structs that this package is written for."""
 
 _CALLS: dict[str, tuple[Any, ...]] = {
@@ -42,6 +44,8 @@ _CALLS: dict[str, tuple[Any, ...]] = {
     "forecast": (Forecasted, State),
     "level": (Leveled, State, c_uint32),
     "run": (Ran, State, c_uint32),
+    "jump": (Jumped, State, c_uint32),
+    "jump_run": (JumpRan, State, c_uint32),
     "divisor_for": (Picked, c_uint32, c_uint32),
     "replay": (Replayed, State, c_uint32, POINTER(c_uint32), c_size_t),
     "replay_begin": (Progress, c_char_p, c_size_t),
@@ -66,6 +70,8 @@ MEASURED: tuple[type[Struct], ...] = (
     Picked,
     Expected,
     ExpectProgress,
+    Jumped,
+    JumpRan,
 )
 """The structs of which the library tells the size and has a specimen."""
 

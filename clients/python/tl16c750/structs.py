@@ -396,6 +396,27 @@ class Ran(Struct):
 
 
 @_struct
+class Jumped(Struct):
+    """What ticks by jumps answer: the jumps made, and the state after them."""
+
+    number: U8
+    part: U8
+    jumps: U32
+    state: State
+
+
+@_struct
+class JumpRan(Struct):
+    """What run by jumps answers: the ticks used, the jumps made, and the state after them."""
+
+    number: U8
+    part: U8
+    used: U32
+    jumps: U32
+    state: State
+
+
+@_struct
 class Values(Struct):
     """How a replay ended: number and part, the byte seen, the model's byte, the record's place."""
 
@@ -472,6 +493,8 @@ class Sizes(Struct):
     picked: U32
     expected: U32
     expect_progress: U32
+    jumped: U32
+    jump_ran: U32
 
 
 @_struct

@@ -49,8 +49,8 @@ _WHERE = {
 }
 
 # A call of the library is not interrupted, so long work goes in pieces of some tenths of a second at
-# most: ticks at a divisor of 1 take about 10 ns, and a record has at most 65,535 of them.
-_TICKS = 1 << 23
+# most: a pulse takes about 10 ns, the ticks between two are passed over, and a record has at most 65,535.
+_PULSES = 1 << 23
 _RECORDS = 512
 
 _NONE = (ctypes.c_uint32 * 0)()
@@ -108,6 +108,13 @@ class Picked(NamedTuple):
     error: int
 
 
+class JumpRan(NamedTuple):
+    """What a run by jumps used: the ticks, as run has them, and the jumps."""
+
+    used: int
+    jumps: int
+
+
 def divisor_for(clock: int, rate: int) -> Picked:
     """The divisor for a rate: of those from 1 to 65535 the one with the smallest distance between clock and
     16 * divisor * rate, the smaller one on a tie. The clock is in Hz, 1 to 16,000,000; the rate is in
@@ -127,6 +134,27 @@ def _done(answer: Any) -> Any:
     if answer.number:
         raise Refused(answer.number, part=answer.part or None)
     return answer
+
+
+def _piece(state: State, left: int) -> int:
+    """How many of the ticks that are left make the next piece. It ends at a pulse or takes all of them, so
+    that no jump is cut in two."""
+    divisor = state.baud.divisor if left > _PULSES else 0
+    return min(left, state.baud.k + (_PULSES - 1) * divisor) if divisor else left
+
+
+def _ticked(call: Any, state: State, n: int) -> Iterator[Any]:
+    """The answers of a call that takes ticks, for n of them, a piece at a time, up to one that does not
+    use all."""
+    left = fits(n, 32, "a number of ticks")
+    while True:
+        piece = _piece(state, left)
+        answer = _done(call(state, piece))
+        yield answer
+        state = answer.state
+        left -= piece
+        if not left or getattr(answer, "used", piece) < piece:
+            return
 
 
 def _agreed(values: Values) -> bool:
@@ -418,6 +446,14 @@ class Uart:
         self._state = _done(answer).state
         return answer
 
+    def _counted(self, call: Any, n: int, *names: str) -> list[int]:
+        """n ticks by a call, a piece at a time: of each of these numbers that it answers the sum."""
+        sums = [0] * len(names)
+        for answer in _ticked(call, self._state, n):
+            sums = [total + getattr(answer, name) for total, name in zip(sums, names)]
+        self._step(answer)
+        return sums
+
     def reset(self) -> Outputs:
         """Reset; the output pins after it."""
         return self._step(library.uart_reset(self._state)).outputs
@@ -433,15 +469,9 @@ class Uart:
 
     def tick(self, n: int = 1) -> Outputs:
         """n ticks of the clock; the output pins after them."""
-        left = fits(n, 32, "a number of ticks")
-        state = self._state
-        while True:
-            piece = min(left, _TICKS)
-            answer = _done(library.uart_ticks(state, piece))
-            state = answer.state
-            left -= piece
-            if not left:
-                return self._step(answer).outputs
+        for answer in _ticked(library.uart_ticks, self._state, n):
+            pass
+        return self._step(answer).outputs
 
     def forecast(self) -> int:
         """The ticks until queue and shift register are both empty."""
@@ -453,18 +483,23 @@ class Uart:
 
     def run(self, n: int) -> int:
         """At most n ticks, until queue and shift register are both empty: the ticks used."""
-        left = fits(n, 32, "a number of ticks")
-        state = self._state
-        used = 0
-        while True:
-            piece = min(left, _TICKS)
-            ran = _done(library.uart_run(state, piece))
-            state = ran.state
-            used += ran.used
-            left -= piece
-            if not left or ran.used < piece:
-                self._step(ran)
-                return used
+        return self._counted(library.uart_run, n, "used")[0]
+
+    def jump(self, n: int) -> int:
+        """n ticks by jumps from pulse to pulse: the jumps made. The state is that of n single ticks.
+
+        A jump ends at a pulse, or at n when the rest falls short of one. For n 0 there is none; with
+        divisor 0, where no pulse comes, one of all n ticks; with a divisor D above 0 at most
+        2 + n // D."""
+        return self._counted(library.uart_jump, n, "jumps")[0]
+
+    def jump_run(self, n: int) -> JumpRan:
+        """At most n ticks by jumps, until queue and shift register are both empty: the ticks used and the
+        jumps made. Ticks and state are those of run.
+
+        Before each jump it is looked whether queue and shift register are empty (LSR bit 6), so that
+        there is none where they already are. With work left and divisor 0 there is one of all n ticks."""
+        return JumpRan(*self._counted(library.uart_jump_run, n, "used", "jumps"))
 
     def replay(self, version: int, records: Iterable[int]) -> Optional[Difference]:
         """A replay of records of a capture from this state, up to the first read whose byte differs
