@@ -48,6 +48,14 @@ static uint32_t device_ticks(struct device *d, uint32_t n)
     return sum_of_step(&a);
 }
 
+static uint32_t device_jump(struct device *d, uint32_t n)
+{
+    struct uart_jumped j = uart_jump(d->state, n);
+
+    d->state = j.state;
+    return j.number;
+}
+
 static uint32_t device_pins(struct device *d)
 {
     struct uart_looked l = uart_pins(d->state);
@@ -73,6 +81,14 @@ static uint32_t device_level(struct device *d, uint32_t t)
 static uint32_t device_run(struct device *d, uint32_t n)
 {
     struct uart_ran r = uart_run(d->state, n);
+
+    d->state = r.state;
+    return r.number + r.used;
+}
+
+static uint32_t device_jump_run(struct device *d, uint32_t n)
+{
+    struct uart_jump_ran r = uart_jump_run(d->state, n);
 
     d->state = r.state;
     return r.number + r.used;

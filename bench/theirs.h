@@ -46,6 +46,12 @@ static uint32_t device_ticks(struct device *d, uint32_t n)
     return sum_of_step(&a);
 }
 
+/* Jumps are measured against single ticks. */
+static uint32_t device_jump(struct device *d, uint32_t n)
+{
+    return uart_ticks(&d->state, n).number;
+}
+
 static uint32_t device_pins(struct device *d)
 {
     struct uart_answer a = uart_look(&d->state);
@@ -72,6 +78,11 @@ static uint32_t device_run(struct device *d, uint32_t n)
     struct uart_value v = uart_run(&d->state, n);
 
     return v.number + v.value;
+}
+
+static uint32_t device_jump_run(struct device *d, uint32_t n)
+{
+    return device_run(d, n);
 }
 
 /* The state as the numbers of the text protocol: it is kept in that order. */

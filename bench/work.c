@@ -36,7 +36,7 @@ static void report(const char *name, double start, double units, const struct de
     device_places(d, places);
     for (int i = 0; i < PLACES; i++)
         add(places[i]);
-    printf("%s\t%.3f\t%08x\n", name, took / units * 1e9, sum);
+    printf("%s\t%.9f\t%08x\n", name, took / units * 1e9, sum);
     sum = 0;
 }
 
@@ -100,8 +100,11 @@ static void single_calls(void)
     report("level, 64 bytes queued", start, CALLS, &d);
 }
 
+/* So many ticks, at most or exactly. */
+typedef uint32_t advance(struct device *d, uint32_t n);
+
 /* Run from the same state again and again, at most n ticks each, `ticks` of them in all. */
-static void runs(const char *name, uint32_t divisor, uint8_t lcr, uint8_t mcr, uint32_t n, double ticks)
+static void runs(const char *name, advance *run, uint32_t divisor, uint8_t lcr, uint8_t mcr, uint32_t n, double ticks)
 {
     struct device first;
     struct device d;
@@ -114,36 +117,56 @@ static void runs(const char *name, uint32_t divisor, uint8_t lcr, uint8_t mcr, u
         uint32_t x;
 
         d = first;
-        x = device_run(&d, n);
+        x = run(&d, n);
         add(x);
         used += x;
     }
     report(name, start, used, &d);
 }
 
-static void idle(const char *name, uint32_t divisor, uint32_t n)
+static void idle(const char *name, advance *go_on, uint32_t divisor, uint32_t n)
 {
     struct device d;
     double start;
 
     prepare(&d, divisor, NO_PARITY, 0x00, 0);
     start = seconds();
-    add(device_ticks(&d, n));
+    add(go_on(&d, n));
     report(name, start, n, &d);
+}
+
+static void ticks_and_runs(void)
+{
+    runs("run, divisor 1, sending", device_run, 1, NO_PARITY, 0x00, UINT32_MAX, 1e7);
+    runs("run, divisor 1, loopback", device_run, 1, NO_PARITY, 0x10, UINT32_MAX, 1e7);
+    runs("run, divisor 1, loopback, even parity", device_run, 1, EVEN_PARITY, 0x10, UINT32_MAX, 1e7);
+    runs("run, divisor 1, held", device_run, 1, NO_PARITY, 0x20, 1000000, 1e7);
+    idle("ticks, divisor 1, idle", device_ticks, 1, 10000000);
+    runs("run, divisor 12, sending", device_run, 12, NO_PARITY, 0x00, UINT32_MAX, 2e7);
+    runs("run, divisor 12, loopback", device_run, 12, NO_PARITY, 0x10, UINT32_MAX, 2e7);
+    idle("ticks, divisor 12, idle", device_ticks, 12, 20000000);
+    runs("run, divisor 65535, sending", device_run, 65535, NO_PARITY, 0x00, 20000000, 2e7);
+    runs("run, divisor 65535, loopback", device_run, 65535, NO_PARITY, 0x10, 20000000, 2e7);
+}
+
+/* By jumps. The ticks of the idle line are whole multiples of the divisor, so that each jump ends at a pulse. */
+static void jumps(void)
+{
+    runs("jump, divisor 1, sending", device_jump_run, 1, NO_PARITY, 0x00, UINT32_MAX, 1e7);
+    runs("jump, divisor 1, loopback", device_jump_run, 1, NO_PARITY, 0x10, UINT32_MAX, 1e7);
+    idle("jump, divisor 1, idle", device_jump, 1, 10000000);
+    runs("jump, divisor 12, sending", device_jump_run, 12, NO_PARITY, 0x00, UINT32_MAX, 2e7);
+    runs("jump, divisor 12, loopback", device_jump_run, 12, NO_PARITY, 0x10, UINT32_MAX, 2e7);
+    idle("jump, divisor 12, idle", device_jump, 12, 24000000);
+    runs("jump, divisor 65535, sending", device_jump_run, 65535, NO_PARITY, 0x00, 3000u * 65535u, 2e8);
+    runs("jump, divisor 65535, loopback", device_jump_run, 65535, NO_PARITY, 0x10, 3000u * 65535u, 2e8);
+    idle("jump, divisor 65535, idle", device_jump, 65535, 4000u * 65535u);
 }
 
 int main(void)
 {
     single_calls();
-    runs("run, divisor 1, sending", 1, NO_PARITY, 0x00, UINT32_MAX, 1e7);
-    runs("run, divisor 1, loopback", 1, NO_PARITY, 0x10, UINT32_MAX, 1e7);
-    runs("run, divisor 1, loopback, even parity", 1, EVEN_PARITY, 0x10, UINT32_MAX, 1e7);
-    runs("run, divisor 1, held", 1, NO_PARITY, 0x20, 1000000, 1e7);
-    idle("ticks, divisor 1, idle", 1, 10000000);
-    runs("run, divisor 12, sending", 12, NO_PARITY, 0x00, UINT32_MAX, 2e7);
-    runs("run, divisor 12, loopback", 12, NO_PARITY, 0x10, UINT32_MAX, 2e7);
-    idle("ticks, divisor 12, idle", 12, 20000000);
-    runs("run, divisor 65535, sending", 65535, NO_PARITY, 0x00, 20000000, 2e7);
-    runs("run, divisor 65535, loopback", 65535, NO_PARITY, 0x10, 20000000, 2e7);
+    ticks_and_runs();
+    jumps();
     return 0;
 }
