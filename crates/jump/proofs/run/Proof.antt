@@ -15,11 +15,6 @@ places c = record { bytes-long = search needs; entries-long = search (length-map
 run-requires : tie.Need-run-requires
 run-requires c κs = search needs
 
-count-requires : tie.Need-count-requires
-count-requires c κs =
-    let start = c .before .before .before in
-    λ some d. run-some (start .args .s) (places start) (start .args .n) (rw (← c .before .run .ensures .0) some) d
-
 returns : tie.Need-returns
 returns c =
     let start = c .before .before .before .before in
@@ -27,6 +22,11 @@ returns c =
     let ran = c .before .before .run .ensures .0 in
     let counted = c .count .ensures ∙ ap (λ (r : Ran). jumpCount (s .baud .divisor) (s .baud .k) (r .used)) ran in
     (rw (ran, counted) (run-by-jumps s (places start) (start .args .n)), (ran, λ d. rw counted (run-most s (start .args .n) d)))
+
+count-requires : tie.Need-count-requires
+count-requires c κs =
+    let start = c .before .before .before in
+    λ some d. run-some (start .args .s) (places start) (start .args .n) (rw (← c .before .run .ensures .0) some) d
 
 pub run-spec : {M : Type 1} → statement M
 run-spec = tie.close (tie.spec run-requires count-requires returns)
