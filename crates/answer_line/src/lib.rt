@@ -1,4 +1,6 @@
 // The line of a replay's answer.
+#![tactic(auto)]
+
 ghost use Rattle.std.specs.Prelude.{◌≡◌, ◌+◌, ◌≤◌, length};
 ghost use Rattle.text.specs.Text.{Appended};
 ghost use Rattle.answer_line.specs.Answer.{answer_line};

@@ -1,4 +1,6 @@
 // What the programs do with their arguments, and what they say on standard error.
+#![tactic(auto)]
+
 ghost use Rattle.std.specs.Prelude.{◌≤◌, length};
 
 use libc::STDERR_FILENO;

@@ -1,4 +1,6 @@
 // A block of input: its lines answered, and the answers written to standard output.
+#![tactic(auto)]
+
 ghost use Rattle.std.specs.Prelude.{◌≡◌, true, List, [], ◌++◌, ℕ, suc, ◌≤◌, length, take, drop};
 ghost use Rattle.command.specs.Command.{most_numbers, longest_line};
 ghost use Rattle.numbers.specs.Numbers.{state_count};
@@ -13,7 +15,7 @@ use lines::Progress;
 
 // What was answered of a block: the current state, the place after the last line answered, whether
 // there may be more, and whether the answers could be written.
-#[derive(Drop)]
+#[derive(Clone, Copy)]
 pub struct Part {
     pub session: Session,
     pub next: usize,
@@ -23,7 +25,7 @@ pub struct Part {
 
 // Between two reads: the current state, the bytes held at the start of the block, and whether to go
 // on.
-#[derive(Drop)]
+#[derive(Clone, Copy)]
 pub struct Held {
     pub session: Session,
     pub used: usize,

@@ -2,6 +2,8 @@
 //
 // The definitions that the contracts cite are the device's, in its specs/Calls.antt; which writes
 // reach a queue stands in the invariant's specs/Touch.antt. An address above 7 is taken for 7.
+#![tactic(auto)]
+
 ghost use Rattle.std.specs.Prelude.{◌≡◌, true, false, not, ◌&&◌, ltb, eqb};
 ghost use Rattle.device.specs.Lcr.{divisor_access};
 ghost use Rattle.device.specs.Calls.{read_register, write_register};

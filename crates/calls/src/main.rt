@@ -3,6 +3,8 @@
 // Input is read in blocks. Every whole line of a block is answered, and the answers are written,
 // before the next read; what is read of a line that has not ended is held for it. Of a line longer
 // than any valid one no more is held than shows that.
+#![tactic(auto)]
+
 ghost use Rattle.std.specs.Prelude.{◌≡◌, ◌≤◌, length};
 ghost use Rattle.command.specs.Command.{most_numbers};
 ghost use Rattle.numbers.specs.Numbers.{state_count};

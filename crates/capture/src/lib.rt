@@ -1,6 +1,8 @@
 // Captures: replay of the recorder's records from a state.
 //
 // The definitions that the contracts cite stand in `specs/Replay.antt`.
+#![tactic(auto)]
+
 ghost use Rattle.std.specs.Prelude.{◌≡◌, true};
 ghost use Rattle.device.specs.Ranges.{well_formed};
 ghost use Rattle.capture.specs.Replay.{stopped_at, refused as «refused-at», values_of, replay_from, replay_of, Agrees};
@@ -13,7 +15,7 @@ use sheet::part::NONE;
 
 // How a replay ended: every read agreed, one differs, or a refusal, of a state that is not well formed
 // with its part that is bad.
-#[derive(Drop)]
+#[derive(Clone, Copy)]
 pub enum Outcome {
     Agreed,
     Differs { place: usize, seen: u8, model: u8 },
@@ -22,7 +24,7 @@ pub enum Outcome {
 
 // An outcome as document 01's number and values.
 #[repr(C)]
-#[derive(Drop)]
+#[derive(Clone, Copy)]
 pub struct Values {
     pub number: u8,
     pub part: u8,
@@ -32,7 +34,7 @@ pub struct Values {
 }
 
 // What a replay answers: the state in which it ended, and how.
-#[derive(Drop)]
+#[derive(Clone, Copy)]
 pub struct Replayed {
     pub state: State,
     pub outcome: Outcome,

@@ -1,5 +1,7 @@
 // A capture's file, whose bytes come in parts: where it stands is carried from part to part, and
 // the answer is that of the whole file, whatever the parts are.
+#![tactic(auto)]
+
 ghost use Rattle.std.specs.Prelude.{◌≡◌, List, [], ◌++◌, true, ℕ, ◌+◌, ◌*◌, ◌/◌, ◌≤◌, ◌<◌, ◌^◌, length, drop};
 ghost use Rattle.capture.specs.Replay.{refused as «refused-at», values_of};
 ghost use Rattle.device.specs.State.{fresh_of};
@@ -12,7 +14,7 @@ use sheet::answer;
 
 // Where a file stands: its version, how its records so far ended and in which state, and the place
 // of the next record.
-#[derive(Drop)]
+#[derive(Clone, Copy)]
 pub struct Progress {
     pub version: u32,
     pub place: usize,

@@ -21,7 +21,7 @@ const BLOCK: usize = 16384;
 // Where a file stands: its version, what stopped it (0 nothing so far, 1 a read that differs, 2 a
 // refusal) with its values, the records done, and the state.
 #[repr(C)]
-#[derive(Drop)]
+#[derive(Clone, Copy)]
 pub struct Progress {
     pub version: u32,
     pub stopped: u8,

@@ -1,5 +1,7 @@
 // Replay as a client of the library has it: how it ended and the state in one struct. `file` has the
 // replay of a file that comes in parts.
+#![tactic(auto)]
+
 pub mod file;
 
 ghost use Rattle.std.specs.Prelude.{◌≡◌};
@@ -11,7 +13,7 @@ use device::State;
 
 // What a replay answers: the number, the place and both bytes, and the state in which it ended.
 #[repr(C)]
-#[derive(Drop)]
+#[derive(Clone, Copy)]
 pub struct Replay {
     pub values: Values,
     pub state: State,

@@ -1,5 +1,7 @@
 // The clock: between two pulses k alone falls. `advance` finds by one division the pulses that n ticks
 // bring, and k after them; `pulse` makes the pulses, the quiet ones at once.
+#![tactic(auto)]
+
 pub mod pulse;
 
 ghost use Rattle.std.specs.Prelude.{◌≡◌, true};

@@ -1,4 +1,6 @@
 // What a line says: its command, by the table of the protocol, and the numbers beside it.
+#![tactic(auto)]
+
 ghost use Rattle.std.specs.Prelude.{◌≡◌, true, false, List, [], ◌∷◌, ℕ, ◌≤◌, length, take};
 ghost use Rattle.text.specs.Text.{text};
 ghost use Rattle.text.specs.Text.{same as «same_text»};
@@ -26,7 +28,7 @@ pub const MOST_NUMBERS: usize = MOST_RECORDS + 2;
 pub const LONGEST_LINE: usize = 17 + 11 * MOST_RECORDS;
 
 // A call that moves the current state by a step.
-#[derive(Drop)]
+#[derive(Clone, Copy)]
 pub enum Call {
     Reset,
     Read(u8),
@@ -39,7 +41,7 @@ pub enum Call {
 
 // A line's command. The numbers of `load` stand beside it, and so do those of `replay` and `expect`,
 // whose version, room and number of records it has.
-#[derive(Drop)]
+#[derive(Clone, Copy)]
 pub enum Command {
     Fresh,
     Load,
@@ -59,7 +61,7 @@ pub enum Command {
 }
 
 // Two numbers of a line, or none.
-#[derive(Drop)]
+#[derive(Clone, Copy)]
 enum Pair {
     Numbers(u32, u32),
     Nothing,

@@ -1,5 +1,7 @@
 // The current state, and the commands that change it: each makes the next state, and puts its
 // answer into a lent buffer.
+#![tactic(auto)]
+
 ghost use Rattle.std.specs.Prelude.{◌≡◌, [], ◌∷◌, ◌+◌, ◌≤◌, length};
 ghost use Rattle.device.specs.State.{fresh_of};
 ghost use Rattle.device.specs.Ranges.{part_of};
@@ -31,14 +33,14 @@ const UNWRITTEN: u32 = 0xAAAAAAAA;
 
 // The current state. Where loaded numbers do not fit the model's types, it is one that every call
 // refuses with the part of these numbers, and the numbers are kept apart.
-#[derive(Drop)]
+#[derive(Clone, Copy)]
 pub struct Session {
     pub state: State,
     pub fits: bool,
 }
 
 // The current state after a command, and the end of its answer in the buffer.
-#[derive(Drop)]
+#[derive(Clone, Copy)]
 pub struct Said {
     pub session: Session,
     pub end: usize,

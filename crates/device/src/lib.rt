@@ -2,6 +2,7 @@
 // in specs/, a file for each register or unit; this crate is the manual that the others implement.
 //
 // Every field is an unsigned number, so every bit pattern is a state: well formed, or refused.
+#![tactic(auto)]
 
 ghost use Rattle.std.specs.Prelude.{◌≡◌};
 ghost use Rattle.device.specs.State.{fresh_of, reset_state, with_inputs, with_empty};
@@ -10,7 +11,7 @@ use queue::{ByteQueue, EntryQueue, Errors};
 
 // The registers that keep what is written to them.
 #[repr(C)]
-#[derive(Drop)]
+#[derive(Clone, Copy)]
 pub struct Registers {
     pub ier: u8,
     pub mcr: u8,
@@ -20,7 +21,7 @@ pub struct Registers {
 
 // The baud generator: the divisor D, and k, the ticks to the next pulse.
 #[repr(C)]
-#[derive(Drop)]
+#[derive(Clone, Copy)]
 pub struct Baud {
     pub divisor: u32,
     pub k: u32,
@@ -28,7 +29,7 @@ pub struct Baud {
 
 // What FCR sets: FIFO on, size bit (1 is 64), DMA bit, trigger code.
 #[repr(C)]
-#[derive(Drop)]
+#[derive(Clone, Copy)]
 pub struct FifoControl {
     pub enabled: u8,
     pub size: u8,
@@ -38,7 +39,7 @@ pub struct FifoControl {
 
 // The input pins: CTS, DSR, RI, DCD asserted in bits 0..3; the level of SIN.
 #[repr(C)]
-#[derive(Drop)]
+#[derive(Clone, Copy)]
 pub struct Inputs {
     pub modem: u8,
     pub sin: u8,
@@ -57,7 +58,7 @@ pub fn with_inputs(s: State, modem: u8, sin: u8) -> State
 // The transmitter shift register: L, the pulses left of the frame now sent, with its byte and
 // format; all zero where nothing is sent.
 #[repr(C)]
-#[derive(Drop)]
+#[derive(Clone, Copy)]
 pub struct Frame {
     pub left: u32,
     pub byte: u8,
@@ -67,7 +68,7 @@ pub struct Frame {
 // The receiver: its phase, and in a character its position P, its format, and the data and parity
 // samples taken so far.
 #[repr(C)]
-#[derive(Drop)]
+#[derive(Clone, Copy)]
 pub struct Receiver {
     pub phase: u8,
     pub format: u8,
@@ -86,7 +87,7 @@ pub const CHARACTER: u8 = 2;
 // The transmit-empty latch, OE, the time-out latch, the change bits of MSR (bits 0..3: CTS, DSR,
 // RI, DCD), RTS hold, and the idle count.
 #[repr(C)]
-#[derive(Drop)]
+#[derive(Clone, Copy)]
 pub struct Latches {
     pub empty: u8,
     pub overrun: u8,
@@ -107,7 +108,7 @@ pub fn with_empty(l: Latches, empty: u8) -> Latches
 
 // The whole device. In character mode PE, FE and BI are kept apart from the byte, until LSR is read.
 #[repr(C)]
-#[derive(Drop)]
+#[derive(Clone, Copy)]
 pub struct State {
     pub registers: Registers,
     pub baud: Baud,
@@ -185,7 +186,7 @@ pub fn reset(s: State) -> State
 }
 
 // The numbers that a write sets which reaches no queue.
-#[derive(Drop)]
+#[derive(Clone, Copy)]
 pub struct Numbers {
     pub registers: Registers,
     pub baud: Baud,
@@ -193,14 +194,14 @@ pub struct Numbers {
 }
 
 // What a register read gives: the byte, and the state after it.
-#[derive(Drop)]
+#[derive(Clone, Copy)]
 pub struct Reading {
     pub byte: u8,
     pub state: State,
 }
 
 // What a pulse makes of the receiver: its next state, and the entry of a character that ended.
-#[derive(Drop)]
+#[derive(Clone, Copy)]
 pub struct Received {
     pub receiver: Receiver,
     pub ended: bool,
@@ -209,7 +210,7 @@ pub struct Received {
 
 // The output pins as levels (SOUT, INTRPT: 1 is high; the others: 1 is asserted).
 #[repr(C)]
-#[derive(Drop)]
+#[derive(Clone, Copy)]
 pub struct Outputs {
     pub sout: u8,
     pub rts: u8,
@@ -223,7 +224,7 @@ pub struct Outputs {
 
 // What the look at the pins answers.
 #[repr(C)]
-#[derive(Drop)]
+#[derive(Clone, Copy)]
 pub struct Looked {
     pub number: u8,
     pub part: u8,
@@ -232,7 +233,7 @@ pub struct Looked {
 
 // What the forecast answers: T, the ticks until queue and shift register are both empty.
 #[repr(C)]
-#[derive(Drop)]
+#[derive(Clone, Copy)]
 pub struct Forecasted {
     pub number: u8,
     pub part: u8,
@@ -241,7 +242,7 @@ pub struct Forecasted {
 
 // What the call for the line's level answers.
 #[repr(C)]
-#[derive(Drop)]
+#[derive(Clone, Copy)]
 pub struct Leveled {
     pub number: u8,
     pub part: u8,
@@ -250,7 +251,7 @@ pub struct Leveled {
 
 // What run answers: the ticks used, and the state after them.
 #[repr(C)]
-#[derive(Drop)]
+#[derive(Clone, Copy)]
 pub struct Ran {
     pub number: u8,
     pub part: u8,
@@ -260,7 +261,7 @@ pub struct Ran {
 
 // What ticks by jumps answer: the number of jumps, and the state after them.
 #[repr(C)]
-#[derive(Drop)]
+#[derive(Clone, Copy)]
 pub struct Jumped {
     pub number: u8,
     pub part: u8,
@@ -270,7 +271,7 @@ pub struct Jumped {
 
 // What run by jumps answers: the ticks used, the number of jumps, and the state after them.
 #[repr(C)]
-#[derive(Drop)]
+#[derive(Clone, Copy)]
 pub struct JumpRan {
     pub number: u8,
     pub part: u8,
@@ -282,7 +283,7 @@ pub struct JumpRan {
 // What a step answers. The part stands last: before the state, it would move it off a multiple of eight
 // bytes, and copies would take longer.
 #[repr(C)]
-#[derive(Drop)]
+#[derive(Clone, Copy)]
 pub struct Answer {
     pub number: u8,
     pub byte: u8,

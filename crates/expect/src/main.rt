@@ -1,5 +1,7 @@
 // Writes, for a capture from a file or from standard input, the one that is expected of an undisturbed
 // chip: its records, each read with the model's byte in it.
+#![tactic(auto)]
+
 ghost use Rattle.std.specs.Prelude.{◌≤◌, length};
 
 use libc::{STDERR_FILENO, STDIN_FILENO, STDOUT_FILENO};

@@ -1,5 +1,7 @@
 // Reads a capture from a file descriptor, 8,192 records at a time, and writes the one that is
 // expected, from the fresh state, to standard output.
+#![tactic(auto)]
+
 ghost use Rattle.std.specs.Prelude.{◌≡◌, true, false, List, ◌++◌, ℕ, ◌+◌, ◌*◌, ◌≤◌, ◌<◌, ◌^◌, length, take};
 ghost use Rattle.io.specs.Counts.{IsPrefixLen};
 ghost use Rattle.text.specs.Decimal.{word_of};
@@ -18,14 +20,14 @@ use text::decimal;
 const BLOCKS: usize = 1125899906842624;
 
 // Where a capture stands behind a block, and whether what was made of it could be written.
-#[derive(Drop)]
+#[derive(Clone, Copy)]
 struct Turn {
     progress: Progress,
     written: bool,
 }
 
 // The number of a refusal, unless a read or a write failed.
-#[derive(Drop)]
+#[derive(Clone, Copy)]
 struct Ended {
     number: u8,
     failed: bool,

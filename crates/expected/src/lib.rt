@@ -2,6 +2,8 @@
 // model's byte in it.
 //
 // The definitions that the contracts cite stand in `specs/Expected.antt`.
+#![tactic(auto)]
+
 ghost use Rattle.std.specs.Prelude.{◌≡◌, true, ◌≤◌, min, length, take, drop};
 ghost use Rattle.device.specs.Ranges.{well_formed};
 ghost use Rattle.capture.specs.Replay.{agreed, replay_from, replay_of};
@@ -16,7 +18,7 @@ use sheet::part::NONE;
 // What the writer answers: a refusal's number, with the part of the state that is bad, how many words
 // it wrote, and the state in which it ended.
 #[repr(C)]
-#[derive(Drop)]
+#[derive(Clone, Copy)]
 pub struct Expected {
     pub number: u8,
     pub part: u8,

@@ -1,6 +1,8 @@
 // The capture expected for a file, whose bytes come in parts, each written anew in place: where it
 // stands is carried from part to part by value, every bit pattern of it is a value, and what is
 // written is that of the whole file, whatever the parts are.
+#![tactic(auto)]
+
 ghost use Rattle.std.specs.Prelude.{◌≡◌, List, [], ◌++◌, ℕ, ◌*◌, ◌/◌, ◌≤◌, ◌<◌, length, take, drop};
 ghost use Rattle.expected_file.specs.File.{after, expected_of, begun_of, made_by, rest_of, Ready};
 
@@ -15,7 +17,7 @@ const PIECE: usize = 2048;
 // Where a file stands: the number of a refusal, with the part of the state that is bad, the version,
 // how many records the last call wrote, and the state.
 #[repr(C)]
-#[derive(Drop)]
+#[derive(Clone, Copy)]
 pub struct Progress {
     pub number: u8,
     pub part: u8,

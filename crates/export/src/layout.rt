@@ -25,7 +25,7 @@ use rate::Picked;
 
 // The sizes in bytes.
 #[repr(C)]
-#[derive(Drop)]
+#[derive(Clone, Copy)]
 pub struct Sizes {
     pub state: u32,
     pub answer: u32,

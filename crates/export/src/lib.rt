@@ -3,6 +3,8 @@
 // length, and each call has the contract of the call of `uart`, `foretell`, `jump`, `client`,
 // `expected`, `expected_file` or `rate` that it hands on.
 // clients/tl16c750.h declares the same for C.
+#![tactic(auto)]
+
 pub mod layout;
 
 ghost use Rattle.std.specs.Prelude.{◌≡◌, List, [], ◌++◌, length, take, drop, ℕ, ◌+◌, ◌*◌, ◌/◌, ◌≤◌, ◌<◌, ◌^◌};
@@ -29,7 +31,7 @@ use rate::Picked;
 
 // The version of the library, and of the layout of its structs: this one changes where a struct does.
 #[repr(C)]
-#[derive(Drop)]
+#[derive(Clone, Copy)]
 pub struct Versions {
     pub major: u32,
     pub minor: u32,

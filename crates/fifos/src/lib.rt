@@ -3,6 +3,8 @@
 //
 // A module for each register, named as the sheet names it. The definitions that the contracts cite
 // are the device's. The crate `bus` has the registers by address.
+#![tactic(auto)]
+
 pub mod fcr;
 pub mod lsr;
 pub mod rbr;

@@ -41,7 +41,7 @@ pub fn read_changes(s: State) -> bool
 }
 
 // What a read changes where something is received: the receive queue, and the latches.
-#[derive(Drop)]
+#[derive(Clone, Copy)]
 pub struct Taken {
     pub rx: EntryQueue,
     pub latches: Latches,

@@ -6,7 +6,7 @@ use device::{Latches, State};
 use queue::ByteQueue;
 
 // What a write changes: the transmit queue, and the latches.
-#[derive(Drop)]
+#[derive(Clone, Copy)]
 pub struct Queued {
     pub tx: ByteQueue,
     pub latches: Latches,

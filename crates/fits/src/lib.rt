@@ -1,4 +1,6 @@
 // Which numbers fit their places' types: the lowest part of a state of which some do not.
+#![tactic(auto)]
+
 ghost use Rattle.std.specs.Prelude.{◌≡◌, ◌≤◌, length, eqb};
 ghost use Rattle.flag.specs.Flag.{all_of};
 ghost use Rattle.numbers.specs.Numbers.{state_count, is_byte, bytes_in, registers_fit, settings_fit, transmit_fits, receive_fits, latches_fit, fits, unfit_part};

@@ -1,6 +1,8 @@
 // Flags and tests: a flag of the state is the number 0 or 1, a register bit is one digit of its byte.
 //
 // The contracts cite `specs/Flag.antt`, which every crate above uses.
+#![tactic(auto)]
+
 ghost use Rattle.std.specs.Prelude.{◌≡◌, ◌&&◌, ◌||◌, [], ◌∷◌, ◌<◌, ◌/◌, ◌%◌, eqb};
 ghost use Rattle.flag.specs.Flag.{bit_of, byte_of, differ as «Differ-of», implies as «implies-of»};
 

@@ -1,5 +1,7 @@
 // The forecast: the ticks until the transmitter is empty, the level of its line after any number of
 // ticks, and the ticks that run uses. Each call takes a state that is known to be well formed.
+#![tactic(auto)]
+
 pub mod formula;
 
 ghost use Rattle.std.specs.Prelude.{◌≡◌, true};

@@ -4,6 +4,8 @@
 // that is bad.
 //
 // A contract equates the whole answer with a definition of the device's `specs/Forecast.antt`.
+#![tactic(auto)]
+
 ghost use Rattle.std.specs.Prelude.{◌≡◌, ℕ, ◌≤◌};
 ghost use Rattle.device.specs.Ranges.{part_of};
 ghost use Rattle.device.specs.Calls.{ticks_of};
@@ -16,7 +18,7 @@ use sheet::answer;
 use sheet::part::NONE;
 
 // The number that the forecast answers, and the part of the state that is bad.
-#[derive(Drop)]
+#[derive(Clone, Copy)]
 struct Refusal {
     number: u8,
     part: u8,

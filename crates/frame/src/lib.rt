@@ -1,6 +1,8 @@
 // Frames: what a format (bits 0..5 of LCR) makes of a byte on the line.
 //
 // Numbers and lists only. The contracts cite `specs/Format.antt`, `specs/Frame.antt` and `specs/Low.antt`.
+#![tactic(auto)]
+
 ghost use Rattle.std.specs.Prelude.{◌≡◌, ◌≤◌, ◌<◌, ◌+◌, ◌-◌, ◌*◌, ◌/◌, ◌%◌, get_or};
 ghost use Rattle.frame.specs.Format.{data_bits, parity_bits, stop_pulses, frame_length, character_of, parity_bit};
 ghost use Rattle.frame.specs.Frame.{frame_bits, frame_levels, line_level};

@@ -1,4 +1,6 @@
 // Blocks of a capture's bytes, read from a file descriptor, with a word on how far the work is.
+#![tactic(auto)]
+
 pub mod progress;
 
 ghost use Rattle.std.specs.Prelude.{◌+◌, ◌<◌, ◌^◌, length};
@@ -7,7 +9,7 @@ ghost use Rattle.io.specs.Counts.{IsPrefixLen};
 use progress::Watch;
 
 // How many bytes were read, and whether a read failed.
-#[derive(Drop)]
+#[derive(Clone, Copy)]
 pub struct Filled {
     pub count: usize,
     pub failed: bool,

@@ -2,7 +2,7 @@
 use libc::STDERR_FILENO;
 
 // The second in which this was told last, whether to tell at all, and the records that were told.
-#[derive(Drop)]
+#[derive(Clone, Copy)]
 pub struct Watch {
     second: i64,
     tells: bool,

@@ -5,6 +5,8 @@
 // jumps follows from the divisor, k and the ticks alone, so that it is not counted on the way.
 //
 // A contract equates the whole answer with a definition of the device's `specs/Jump.antt`.
+#![tactic(auto)]
+
 ghost use Rattle.std.specs.Prelude.{◌≡◌, ◌+◌, ◌/◌, ◌≤◌};
 ghost use Rattle.device.specs.Forecast.{run_of};
 ghost use Rattle.device.specs.Jump.{jump_of, jump_run_of};

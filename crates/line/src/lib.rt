@@ -1,4 +1,6 @@
 // The transmitter's and the idle count's parts of a pulse. `clock` puts them together with the
 // receiver's.
+#![tactic(auto)]
+
 pub mod idle;
 pub mod transmitter;

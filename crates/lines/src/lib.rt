@@ -1,4 +1,6 @@
 // A block of lines answered, and what is held of a line that has not ended.
+#![tactic(auto)]
+
 ghost use Rattle.std.specs.Prelude.{◌≡◌, suc, ◌≤◌, min, length, take, drop};
 ghost use Rattle.command.specs.Command.{most_numbers, longest_line};
 ghost use Rattle.numbers.specs.Numbers.{state_count};
@@ -16,7 +18,7 @@ const HELD: usize = command::LONGEST_LINE + 1;
 
 // Where the answering of a block stands: the current state, the place in the block after the last
 // line answered, the end of the answers, and whether it stopped for want of room.
-#[derive(Drop)]
+#[derive(Clone, Copy)]
 pub struct Progress {
     pub session: Session,
     pub next: usize,

@@ -2,6 +2,8 @@
 //
 // A group of numbers stands after another: settings, transmit queue, frame, receive queue, receiver
 // with latches and kept errors. Places count from 1.
+#![tactic(auto)]
+
 ghost use Rattle.std.specs.Prelude.{◌≡◌, map, ◌+◌, ◌*◌, ◌%◌, ◌≤◌, length};
 ghost use Rattle.text.specs.Text.{Appended};
 ghost use Rattle.numbers.specs.Numbers.{state_count, settings_numbers, frame_numbers, entry_numbers, entries_numbers, receiver_numbers, numbers_of};

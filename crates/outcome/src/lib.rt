@@ -1,4 +1,6 @@
 // The line that says how a replay ended: agreed, differs, or refused.
+#![tactic(auto)]
+
 ghost use Rattle.std.specs.Prelude.{◌+◌, ◌≤◌, length};
 ghost use Rattle.text.specs.Text.{Appended};
 ghost use Rattle.outcome.specs.Outcome.{differs_line, refused_line, outcome_line};

@@ -1,4 +1,6 @@
 // The bytes that were read, replayed piece by piece, with a word on how far the replay is.
+#![tactic(auto)]
+
 ghost use Rattle.std.specs.Prelude.{◌≡◌, List, ◌++◌, ℕ, ◌+◌, ◌*◌, ◌/◌, ◌≤◌, ◌^◌, length, take, drop};
 ghost use Rattle.capture_file.specs.File.{rest_of};
 
@@ -11,7 +13,7 @@ use input::progress::Watch;
 const PIECE: usize = 2048;
 
 // The answer for a capture, unless a read failed.
-#[derive(Drop)]
+#[derive(Clone, Copy)]
 pub struct Judged {
     pub replayed: Replayed,
     pub failed: bool,
@@ -19,7 +21,7 @@ pub struct Judged {
 }
 
 // Where a replay stands.
-#[derive(Drop)]
+#[derive(Clone, Copy)]
 pub struct Standing {
     pub progress: Progress,
     pub watch: Watch,

@@ -1,4 +1,6 @@
 // The commands that change nothing: their answers, put into a lent buffer.
+#![tactic(auto)]
+
 ghost use Rattle.std.specs.Prelude.{◌≡◌, true, [], ◌+◌, ◌≤◌, length};
 ghost use Rattle.text.specs.Text.{Appended};
 ghost use Rattle.numbers.specs.Numbers.{state_count};

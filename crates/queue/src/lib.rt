@@ -4,6 +4,8 @@
 // beyond the count zero. The contracts cite `specs/Queue.antt`; `proofs/Contents.antt` has the facts
 // about what is queued, over lists, once for both. The tests of every place have no early way out, so
 // that the compiler can look at many places at once.
+#![tactic(auto)]
+
 pub mod bytes;
 pub mod entries;
 
@@ -14,7 +16,7 @@ use sheet::limits;
 
 // The transmit queue.
 #[repr(C)]
-#[derive(Drop)]
+#[derive(Clone, Copy)]
 pub struct ByteQueue {
     pub bytes: [u8; limits::PLACES],
     pub count: u32,
@@ -22,7 +24,7 @@ pub struct ByteQueue {
 
 // A received character with its error flags, each 0 or 1.
 #[repr(C)]
-#[derive(Drop)]
+#[derive(Clone, Copy)]
 pub struct Entry {
     pub byte: u8,
     pub pe: u8,
@@ -32,7 +34,7 @@ pub struct Entry {
 
 // PE, FE and BI, each 0 or 1.
 #[repr(C)]
-#[derive(Drop)]
+#[derive(Clone, Copy)]
 pub struct Errors {
     pub pe: u8,
     pub fe: u8,
@@ -41,7 +43,7 @@ pub struct Errors {
 
 // The receive queue.
 #[repr(C)]
-#[derive(Drop)]
+#[derive(Clone, Copy)]
 pub struct EntryQueue {
     pub entries: [Entry; limits::PLACES],
     pub count: u32,

@@ -1,4 +1,6 @@
 // The ranges of the queues, of the frame now sent and of the receiver: parts 3 and 4 of `Ranges.antt`.
+#![tactic(auto)]
+
 ghost use Rattle.std.specs.Prelude.{◌≡◌, cond, ◌&&◌, ◌^◌, ◌≤◌, min, ltb, eqb};
 ghost use Rattle.queue.specs.Queue.{errors_within, entries_within};
 ghost use Rattle.flag.specs.Flag.{every, implies as «implies-of»};

@@ -3,6 +3,8 @@
 // made at once: `shift_by`, `hear_by`, `later_by`.
 //
 // `reach` counts them. That m of them are m pulses of `Tick.antt` is the law `quiet-pulses`.
+#![tactic(auto)]
+
 ghost use Rattle.std.specs.Prelude.{◌≡◌, ◌+◌, ◌≤◌, min};
 ghost use Rattle.quiet.specs.Needs.{Hearing};
 ghost use Rattle.quiet.specs.Quiet.{sends as «sends-of», shifted_by, low_heard, place_heard, low_from, false_start, character_hears, hears as «hears-of», heard_by, counted_by, later_by, reach_of};

@@ -1,5 +1,7 @@
 // The ranges of a well-formed state, a function for each of the five parts of `Ranges.antt`; those of
 // parts 3 and 4 stand in `queue_ranges`.
+#![tactic(auto)]
+
 ghost use Rattle.std.specs.Prelude.{◌≡◌, cond, ◌&&◌, leb, eqb};
 ghost use Rattle.flag.specs.Flag.{every};
 ghost use Rattle.device.specs.Ranges.{register_ranges, setting_ranges, latch_ranges, queue_latch_ranges, flow_latch_ranges, well_formed, part_of};

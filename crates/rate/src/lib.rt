@@ -1,5 +1,7 @@
 // The divisor for a rate: what the divisor latches take so that a clock gives the rate. Nothing here
 // knows the state.
+#![tactic(auto)]
+
 ghost use Rattle.std.specs.Prelude.{◌≡◌, ℕ, ◌^◌, ◌≤◌, ◌<◌, pos, neg_ℤ};
 ghost use Rattle.rate.specs.Rate.{Nearest, divisor_for, error_of, within as «within_both»};
 
@@ -8,7 +10,7 @@ use sheet::{answer, limits};
 
 // What the call answers: the divisor, and the error in parts per million.
 #[repr(C)]
-#[derive(Drop)]
+#[derive(Clone, Copy)]
 pub struct Picked {
     pub number: u8,
     pub divisor: u32,

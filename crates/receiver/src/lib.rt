@@ -1,4 +1,6 @@
 // The receiver's part of a pulse.
+#![tactic(auto)]
+
 pub mod samples;
 
 ghost use Rattle.std.specs.Prelude.{◌≡◌, cond, ◌≤◌};

@@ -1,5 +1,7 @@
 // A record's step: the record that the model expects, and the state after it, by the ways in which
 // records touch the state. The loop over records leaves in place what a record does not touch.
+#![tactic(auto)]
+
 ghost use Rattle.std.specs.Prelude.{◌≡◌, true, false, ◌<◌};
 ghost use Rattle.recorder.specs.Record.{kind as «kind-of», address as «address-of», is_read};
 ghost use Rattle.device.specs.Ranges.{well_formed};
@@ -28,7 +30,7 @@ pub const TICKS: u8 = 4;
 pub const OTHER: u8 = 5;
 
 // What a write to THR sets: the transmit queue and the latches.
-#[derive(Drop)]
+#[derive(Clone, Copy)]
 pub struct Queued {
     pub tx: ByteQueue,
     pub latches: Latches,

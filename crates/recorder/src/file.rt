@@ -8,7 +8,7 @@ use sheet::answer;
 const MARK: u32 = 5395541;
 
 // What a header says: the number of a refusal, or the version.
-#[derive(Drop)]
+#[derive(Clone, Copy)]
 pub struct Header {
     pub number: u8,
     pub version: u32,

@@ -4,6 +4,8 @@
 // A module for each register, named as the sheet names it. The definitions that the contracts cite
 // are the device's. RBR, THR, FCR and LSR are in the crate `fifos`, IIR in `interrupts`; the crate
 // `bus` has the registers by address.
+#![tactic(auto)]
+
 pub mod divisor;
 pub mod ier;
 pub mod lcr;

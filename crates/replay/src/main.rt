@@ -1,6 +1,8 @@
 // Replays captures, from files or from standard input, and writes a line for each: agreed, or
 // differs with the place, the byte seen and the model's byte, or refused with the number and the
 // place.
+#![tactic(auto)]
+
 ghost use Rattle.std.specs.Prelude.{◌≤◌, length};
 
 use libc::{STDIN_FILENO, STDOUT_FILENO};

@@ -1,5 +1,7 @@
 // Reads a capture from a file descriptor, 8,192 records at a time, replays it from the fresh state,
 // and writes how that ended.
+#![tactic(auto)]
+
 ghost use Rattle.std.specs.Prelude.{◌≡◌, false, ◌+◌, ◌≤◌, ◌<◌, ◌^◌, length};
 ghost use Rattle.io.specs.Counts.{IsPrefixLen};
 ghost use Rattle.replay_file.specs.Captures.{OfRest, OfFile};

@@ -1,4 +1,6 @@
 // Replays the captures 000, 001, .. of the folder that it runs in, and writes a line for each.
+#![tactic(auto)]
+
 const MOST: u32 = 1000;
 
 // A digit's character.

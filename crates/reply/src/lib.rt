@@ -1,4 +1,6 @@
 // What the calls answer, as lines of numbers put into a lent buffer.
+#![tactic(auto)]
+
 ghost use Rattle.std.specs.Prelude.{◌≡◌, [], ◌∷◌, ◌+◌, ◌≤◌, length};
 ghost use Rattle.device.specs.Calls.{pins_of};
 ghost use Rattle.device.specs.Forecast.{forecast_of, level_of};

@@ -1,5 +1,7 @@
 // Records followed one after the other from a well-formed state: the one loop over records, of replay
 // and of the writer of captures.
+#![tactic(auto)]
+
 ghost use Rattle.std.specs.Prelude.{◌≡◌, true, not, ◌&&◌, [], ◌≤◌, eqb, length, take, get_or, set};
 ghost use Rattle.recorder.specs.Record.{byte};
 ghost use Rattle.device.specs.Ranges.{well_formed};
@@ -11,7 +13,7 @@ use recorder::record;
 
 // Where records are no longer followed: the place of the record, the state before it, and what the
 // model expects of it where it is a good one.
-#[derive(Drop)]
+#[derive(Clone, Copy)]
 pub struct Stop {
     pub state: State,
     pub place: usize,

@@ -2,6 +2,8 @@
 //
 // A line's command (`command`) is made on the current state, and its answer is put into a lent
 // buffer. Nothing here reads or writes a file.
+#![tactic(auto)]
+
 ghost use Rattle.std.specs.Prelude.{◌≡◌, ◌+◌, ◌≤◌, length, take};
 ghost use Rattle.text.specs.Text.{Appended};
 ghost use Rattle.command.specs.Command.{most_numbers, most_room, beside, room_of};

@@ -1,6 +1,8 @@
 // The steps: what reset, a register read or write, a level on an input pin and ticks do to a
 // well-formed state. The public calls (`uart`) look at the state and the arguments first; a record of
 // a capture (`recorded`) stands for a step. A step leaves in place what it does not touch.
+#![tactic(auto)]
+
 ghost use Rattle.std.specs.Prelude.{◌≡◌, true, false, ◌<◌};
 ghost use Rattle.device.specs.State.{with_inputs, reset_state};
 ghost use Rattle.device.specs.Ranges.{well_formed};

@@ -5,7 +5,7 @@ ghost use Rattle.text.specs.Decimal.{number_after, number_of, long_decimal_of, s
 ghost use Rattle.text.specs.Decimal.{glyph as «glyph-of»};
 
 // What a word says: a number, or none.
-#[derive(Drop)]
+#[derive(Clone, Copy)]
 pub enum Number {
     Value(u32),
     Nothing,

@@ -1,4 +1,6 @@
 // A turn of the program `calls`: standard input is read once, and what came is answered.
+#![tactic(auto)]
+
 ghost use Rattle.std.specs.Prelude.{◌≡◌, true, false, List, ℕ, suc, ◌+◌, ◌≤◌, length, take};
 ghost use Rattle.command.specs.Command.{most_numbers, longest_line};
 ghost use Rattle.numbers.specs.Numbers.{state_count};
@@ -11,7 +13,7 @@ use current::Session;
 use libc::STDIN_FILENO;
 
 // What a read gave: how many bytes, or that it failed.
-#[derive(Drop)]
+#[derive(Clone, Copy)]
 struct Got {
     count: usize,
     failed: bool,

@@ -5,6 +5,8 @@
 //
 // A contract equates the whole answer with a definition in the device's specs: of `Calls.antt`, for
 // the fresh state of `State.antt`.
+#![tactic(auto)]
+
 ghost use Rattle.std.specs.Prelude.{◌≡◌, leb};
 ghost use Rattle.device.specs.State.{fresh_of};
 ghost use Rattle.device.specs.Pins.{no_outputs};
