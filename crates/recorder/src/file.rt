@@ -1,6 +1,6 @@
 // The file: words of its bytes and bytes of its words, and its header.
 ghost use Rattle.std.specs.Prelude.{◌≡◌, [], ◌∷◌, ◌≤◌, ◌*◌, ◌/◌, length, take, drop};
-ghost use Rattle.recorder.specs.File.{word_of, words_of, bytes_of, good_header, version as «version_of», known as «known-version», bad_header, headed as «header_of», header_of};
+ghost use Rattle.recorder.specs.File.{word_of, words_of, bytes_of, good_header, version as «version_of», known as «known-version», bad_header, headed as «headed-of», header_of};
 
 use sheet::answer;
 
