@@ -6,7 +6,8 @@ ghost use Rattle.text.specs.Text.{Appended};
 ghost use Rattle.answer_line.specs.Answer.{answer_line};
 
 use capture::Outcome;
-use libc::STDOUT_FILENO;
+use std::io;
+use std::io::Write;
 use text::buffer;
 
 // Puts the line of an outcome, after the name of the capture where there are several.
@@ -22,18 +23,24 @@ fn put_answer(several: bool, name: &[u8], o: Outcome, out: &mut [u8]) -> usize
     outcome::put_outcome(o, out, at)
 }
 
-// Writes this line, which is that of the outcome, and answers whether it could be written.
-fn write_line(several: bool, name: &[u8], o: Outcome, line: &[u8]) -> bool
+// Writes this line, which is that of the outcome.
+fn write_line(
+    rt: HostRuntime,
+    several: bool,
+    name: &[u8],
+    o: Outcome,
+    line: &[u8],
+) -> io::Result<()>
     requires { line.now ≡ answer_line several name.now o }
 {
-    io::write_all(STDOUT_FILENO, line)
+    rt.stdout().write_all(line)
 }
 
-// Says the line of an outcome, and answers whether it could be written.
-pub fn say(several: bool, name: &[u8], o: Outcome) -> bool
+// Says the line of an outcome.
+pub fn say(rt: HostRuntime, several: bool, name: &[u8], o: Outcome) -> io::Result<()>
     requires { length name.now ≤ 4096 }
 {
     let mut line = [0u8; 4138];
     let end = put_answer(several, name, o, &mut line);
-    write_line(several, name, o, &line[..end])
+    write_line(rt, several, name, o, &line[..end])
 }

@@ -1,22 +1,45 @@
 // What the programs do with their arguments, and what they say on standard error.
 #![tactic(auto)]
 
-ghost use Rattle.std.specs.Prelude.{◌≤◌, length};
+ghost use Rattle.std.specs.Prelude.{◌≡◌, is_ok};
 
-use libc::STDERR_FILENO;
-use text::{buffer, words};
+use std::env::{Env, FillError};
+use std::io;
+use std::io::{IsTerminal, Write};
+use text::words;
+
+// How many arguments there are, with the program's name.
+pub fn count(rt: HostRuntime) -> usize {
+    let mut space = [0u8; 1];
+    for i in 0..usize::MAX {
+        if let Err(FillError::NotPresent) = rt.arg(i, &mut space) {
+            return i;
+        }
+    }
+    usize::MAX
+}
+
+// The length of an argument at the start of a buffer; 0 where there is none, or no room for it.
+fn argument(rt: HostRuntime, i: usize, space: &mut [u8]) -> usize
+    ensures { IsWithin result space.new }
+{
+    match rt.arg(i, space) {
+        Ok(n) => n,
+        Err(_) => 0,
+    }
+}
 
 // Whether an argument is this word.
-pub fn is(i: usize, word: &[u8]) -> bool {
-    let mut space = io::buffer();
-    let n = os::arg(i, &mut space);
+pub fn is(rt: HostRuntime, i: usize, word: &[u8]) -> bool {
+    let mut space = [0u8; 4096];
+    let n = argument(rt, i, &mut space);
     words::same(&space[..n], word)
 }
 
 // Whether an argument is an option: it begins with `-`, and more follows.
-pub fn is_option(i: usize) -> bool {
-    let mut space = io::buffer();
-    let n = os::arg(i, &mut space);
+pub fn is_option(rt: HostRuntime, i: usize) -> bool {
+    let mut space = [0u8; 4096];
+    let n = argument(rt, i, &mut space);
     if n < 2 {
         return false;
     }
@@ -24,10 +47,10 @@ pub fn is_option(i: usize) -> bool {
 }
 
 // The first argument that is an option; their number where none is.
-pub fn first_option(count: usize) -> usize {
+pub fn first_option(rt: HostRuntime, count: usize) -> usize {
     let mut i: usize = 1;
     while i < count {
-        if is_option(i) {
+        if is_option(rt, i) {
             return i;
         }
         i += 1;
@@ -35,31 +58,74 @@ pub fn first_option(count: usize) -> usize {
     count
 }
 
+// Writes the parts of a message.
+fn write_parts(
+    rt: HostRuntime,
+    first: &[u8],
+    second: &[u8],
+    third: &[u8],
+    last: &[u8],
+) -> io::Result<()> {
+    let mut out = rt.stderr();
+    out.write_all(first)?;
+    out.write_all(second)?;
+    out.write_all(third)?;
+    out.write_all(last)
+}
+
 // Tells that a program does not take an argument.
-pub fn refuse(program: &[u8], i: usize) {
-    let mut space = io::buffer();
-    let n = os::arg(i, &mut space);
-    io::write_all(STDERR_FILENO, program);
-    io::write_all(STDERR_FILENO, b": unknown argument: ");
-    io::write_all(STDERR_FILENO, &space[..n]);
-    io::write_all(STDERR_FILENO, b" (--help tells which there are)\n");
+pub fn refuse(rt: HostRuntime, program: &[u8], i: usize) {
+    let mut space = [0u8; 4096];
+    let n = argument(rt, i, &mut space);
+    let last = b" (--help tells which there are)\n";
+    let _told = write_parts(rt, program, b": unknown argument: ", &space[..n], last).is_ok();
 }
 
 // Tells what is awaited, where standard input is a terminal.
-pub fn hint(text: &[u8]) {
-    if libc::isatty(libc::STDIN_FILENO) == 1 {
-        io::write_all(STDERR_FILENO, text);
+pub fn hint(rt: HostRuntime, text: &[u8]) {
+    if rt.stdin().is_terminal() {
+        let _told = rt.stderr().write_all(text).is_ok();
     }
 }
 
-// Tells that a program cannot read or write what has this name, and why.
-pub fn tell(program: &[u8], name: &[u8])
-    requires program_len_bound { length program.now ≤ 16 }
-    requires name_len_bound { length name.now ≤ 4096 }
+// The system's words for an error, without its number.
+fn words_of(message: &[u8]) -> usize
+    ensures { result ≤ length message.now }
 {
-    let mut what = [0u8; 4114];
-    let colon = buffer::put(program, &mut what, 0);
-    let at = buffer::put(b": ", &mut what, colon);
-    let end = buffer::put(name, &mut what, at);
-    os::fail(&what[..end]);
+    let end = words::find(message, 0, b'(');
+    if end == message.len() {
+        return end;
+    }
+    if end == 0 {
+        return 0;
+    }
+    end - 1
+}
+
+// Tells that a program cannot read or write what has this name, and why.
+pub fn tell(rt: HostRuntime, program: &[u8], name: &[u8], error: io::Error) {
+    let _told = write_parts(rt, program, b": ", name, b": ").is_ok();
+    match format!(in rt.alloc(); "{error}") {
+        Ok(text) => {
+            let message = text.as_bytes();
+            let n = words_of(message);
+            let _why = write_parts(rt, &message[..n], b"\n", b"", b"").is_ok();
+        }
+        Err(_) => {
+            let _why = rt.stderr().write_all(b"out of memory\n").is_ok();
+        }
+    }
+}
+
+// Whether the program could write to standard output; where it could not, that is told.
+pub fn written(rt: HostRuntime, program: &[u8], r: io::Result<()>) -> bool
+    ensures { result ≡ is_ok r }
+{
+    match r {
+        Ok(()) => true,
+        Err(e) => {
+            tell(rt, program, b"standard output", e);
+            false
+        }
+    }
 }

@@ -10,8 +10,8 @@ ghost use Rattle.lines.specs.Lines.{reading, read_after, Answered, Led};
 ghost use Rattle.blocks.specs.Written.{AnswersOf, LastOf};
 
 use current::Session;
-use libc::STDOUT_FILENO;
 use lines::Progress;
+use std::io::Write;
 
 // What was answered of a block: the current state, the place after the last line answered, whether
 // there may be more, and whether the answers could be written.
@@ -32,22 +32,38 @@ pub struct Held {
     pub more: bool,
 }
 
-// Writes the answers to the next lines of a block, and answers whether they could be written.
-fn write_answers(p: Part, block: &[u8], said: Progress, kept: &[u32], answers: &[u8]) -> bool
+// Writes the answers to the next lines of a block, and answers whether they could be written; where
+// they could not, that is told.
+fn write_answers(
+    rt: HostRuntime,
+    p: Part,
+    block: &[u8],
+    said: Progress,
+    kept: &[u32],
+    answers: &[u8],
+) -> bool
     requires { AnswersOf p.session block.now p.next (standing said.session kept.now) said.next answers.now }
 {
-    io::write_all(STDOUT_FILENO, answers)
+    arguments::written(rt, b"calls", rt.stdout().write_all(answers))
 }
 
-// Writes the answer to the last line, and answers whether it could be written.
-fn write_last(s: Session, line: &[u8], answer: &[u8]) -> bool
+// Writes the answer to the last line, and answers whether it could be written; where it could not,
+// that is told.
+fn write_last(rt: HostRuntime, s: Session, line: &[u8], answer: &[u8]) -> bool
     requires { LastOf s line.now answer.now }
 {
-    io::write_all(STDOUT_FILENO, answer)
+    arguments::written(rt, b"calls", rt.stdout().write_all(answer))
 }
 
 // Answers the next lines of a block, as many as the buffer takes, and writes the answers.
-fn answer_some(p: Part, block: &[u8], numbers: &mut [u32], kept: &mut [u32], out: &mut [u8]) -> Part
+fn answer_some(
+    rt: HostRuntime,
+    p: Part,
+    block: &[u8],
+    numbers: &mut [u32],
+    kept: &mut [u32],
+    out: &mut [u8],
+) -> Part
     requires next_in_bounds { p.next ≤ length block.now }
     requires numbers_len { length numbers.old ≡ most_numbers }
     requires kept_len { length kept.old ≡ state_count }
@@ -57,7 +73,7 @@ fn answer_some(p: Part, block: &[u8], numbers: &mut [u32], kept: &mut [u32], out
     let from = p.next;
     let said = lines::answer_lines(s, block, from, numbers, kept, out);
     let end = said.end;
-    let written = write_answers(p, block, said, kept, &out[..end]);
+    let written = write_answers(rt, p, block, said, kept, &out[..end]);
     let session = said.session;
     Part {
         session,
@@ -70,6 +86,7 @@ fn answer_some(p: Part, block: &[u8], numbers: &mut [u32], kept: &mut [u32], out
 // Answers all lines of a block, unless an answer cannot be written, and answers where they end. A
 // block has no more lines than bytes.
 pub fn answer_block(
+    rt: HostRuntime,
     block: &[u8],
     s: Session,
     numbers: &mut [u32],
@@ -96,7 +113,7 @@ pub fn answer_block(
         if !p.written {
             return p;
         }
-        p = answer_some(p, block, numbers, kept, out);
+        p = answer_some(rt, p, block, numbers, kept, out);
         turns -= 1;
     }
     p
@@ -105,6 +122,7 @@ pub fn answer_block(
 // Answers the lines of a block's bytes up to `end`, which are what was held and what came after it,
 // and holds the rest.
 pub fn answer_read(
+    rt: HostRuntime,
     s: Session,
     block: &mut [u8],
     end: usize,
@@ -119,7 +137,7 @@ pub fn answer_read(
     ensures led { (w₀ : Standing) (input line came : List ℕ) → take end block.old ≡ line ++ came → Led w₀ input (standing s kept.old) line → result.more ≡ true → Led w₀ (input ++ came) (standing result.session kept.new) (take result.used block.new) }
     ensures used_bound { result.used ≤ suc longest_line }
 {
-    let p = answer_block(&block[..end], s, numbers, kept, out);
+    let p = answer_block(rt, &block[..end], s, numbers, kept, out);
     let next = p.next;
     let used = lines::hold(block, next, end);
     let session = p.session;
@@ -132,6 +150,7 @@ pub fn answer_read(
 
 // Answers the last line, if it lacks its newline, and answers whether that could be written.
 pub fn finish(
+    rt: HostRuntime,
     s: Session,
     line: &[u8],
     numbers: &mut [u32],
@@ -143,5 +162,5 @@ pub fn finish(
     requires longest_answer_in_bounds { longest_answer ≤ length out.old }
 {
     let end = lines::answer_last(s, line, numbers, kept, out);
-    write_last(s, line, &out[..end])
+    write_last(rt, s, line, &out[..end])
 }

@@ -4,77 +4,88 @@
 
 ghost use Rattle.std.specs.Prelude.{◌≤◌, length};
 
-use libc::{STDERR_FILENO, STDIN_FILENO, STDOUT_FILENO};
+use std::env::Env;
+use std::fs::File;
+use std::io;
+use std::io::Write;
 use text::words;
 
+// The system's number for a name that is too long.
+const NAME_TOO_LONG: i32 = 36;
+
 // Says what the program is.
-fn help() {
-    let written = io::write_all(
-        STDOUT_FILENO,
-        b"usage: expect [--help] [FILE]\n\nWrites the capture that is expected of an undisturbed chip for the capture FILE, standard\ninput where there is none or for -, to standard output: the same records, but each read\nwith the byte that the model answers. A capture that is refused ends before the record\nthat is, and standard error has the number in a line of its own:\n\n6    no capture: nothing is written\n7    unknown version: nothing is written\n8    bad record, or cut off\n\nThe exit status is always 0. Where reading or writing fails, standard error says so.\n",
-    );
-    if !written {
-        arguments::tell(b"expect", b"standard output");
-    }
+fn help(rt: HostRuntime) {
+    let text =
+        b"usage: expect [--help] [FILE]\n\nWrites the capture that is expected of an undisturbed chip for the capture FILE, standard\ninput where there is none or for -, to standard output: the same records, but each read\nwith the byte that the model answers. A capture that is refused ends before the record\nthat is, and standard error has the number in a line of its own:\n\n6    no capture: nothing is written\n7    unknown version: nothing is written\n8    bad record, or cut off\n\nThe exit status is always 0. Where reading or writing fails, standard error says so.\n";
+    arguments::written(rt, b"expect", rt.stdout().write_all(text));
 }
 
 // Writes what is expected for standard input.
-fn expect_input(name: &[u8])
+fn expect_input(rt: HostRuntime, name: &[u8])
     requires { length name.now ≤ 4096 }
 {
-    arguments::hint(b"expect: a capture is awaited on standard input (expect FILE takes a file)\n");
-    expect_blocks::expect(STDIN_FILENO, name);
+    arguments::hint(
+        rt,
+        b"expect: a capture is awaited on standard input (expect FILE takes a file)\n",
+    );
+    expect_blocks::expect(rt, &mut rt.stdin(), name);
+}
+
+// The file of this name. (Today's library opens a name that is text.)
+fn opened(rt: HostRuntime, name: &[u8]) -> io::Result<File> {
+    match str::from_utf8(name) {
+        Ok(path) => File::open(&rt, path),
+        Err(_) => Err(io::Error::from(io::ErrorKind::InvalidFilename)),
+    }
 }
 
 // Writes what is expected for the capture of this name.
-fn expect_named(name: &[u8])
+fn expect_named(rt: HostRuntime, name: &[u8])
     requires { length name.now ≤ 4096 }
 {
     if words::same(name, b"-") {
-        expect_input(name);
+        expect_input(rt, name);
         return;
     }
-    let fd = os::open_read(name);
-    if fd < 0 {
-        arguments::tell(b"expect", name);
-        return;
+    match opened(rt, name) {
+        Ok(mut file) => expect_blocks::expect(rt, &mut file, name),
+        Err(e) => arguments::tell(rt, b"expect", name, e),
     }
-    expect_blocks::expect(fd, name);
-    libc::close(fd);
 }
 
 // Writes what is expected for the capture that the first argument names.
-fn expect_argument() {
-    let mut space = io::buffer();
-    let n = os::arg(1, &mut space);
-    if os::errno() != 0 {
-        os::fail(b"expect: an argument");
-        return;
+fn expect_argument(rt: HostRuntime) {
+    let mut space = [0u8; 4096];
+    match rt.arg(1, &mut space) {
+        Ok(n) => expect_named(rt, &space[..n]),
+        Err(_) => {
+            let long = io::Error::from_raw_os_error(NAME_TOO_LONG);
+            arguments::tell(rt, b"expect", b"an argument", long);
+        }
     }
-    expect_named(&space[..n]);
 }
 
-fn main() {
-    let count = os::arg_count();
+fn main(rt: HostRuntime) {
+    let count = arguments::count(rt);
     if count < 2 {
-        expect_input(b"standard input");
+        expect_input(rt, b"standard input");
         return;
     }
-    let option = arguments::first_option(count);
+    let option = arguments::first_option(rt, count);
     if option < count {
-        if arguments::is(option, b"--help") {
-            help();
+        if arguments::is(rt, option, b"--help") {
+            help(rt);
             return;
         }
-        arguments::refuse(b"expect", option);
+        arguments::refuse(rt, b"expect", option);
         return;
     }
     if 2 < count {
-        io::write_all(
-            STDERR_FILENO,
-            b"expect: one capture at a time (--help tells more)\n",
-        );
+        let _told = rt
+            .stderr()
+            .write_all(b"expect: one capture at a time (--help tells more)\n")
+            .is_ok();
         return;
     }
-    expect_argument();
+    expect_argument(rt);
 }

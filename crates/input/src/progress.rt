@@ -1,18 +1,22 @@
 // How far the work on a capture is, on standard error where that is a terminal.
-use libc::STDERR_FILENO;
+use std::io;
+use std::io::{IsTerminal, Write};
+use std::time::Clock;
 
 // The second in which this was told last, whether to tell at all, and the records that were told.
 #[derive(Clone, Copy)]
 pub struct Watch {
-    second: i64,
+    second: u64,
     tells: bool,
     records: usize,
 }
 
 // The second that it is.
-fn second() -> i64 {
-    let mut now: i64 = 0;
-    libc::time(&mut now)
+fn second(rt: HostRuntime) -> u64 {
+    match rt.since_1970() {
+        Ok(now) => now.as_secs(),
+        Err(_) => 0,
+    }
 }
 
 // A watch that tells nothing.
@@ -24,32 +28,38 @@ pub fn silent() -> Watch {
     }
 }
 
-pub fn start() -> Watch {
+pub fn start(rt: HostRuntime) -> Watch {
     Watch {
-        second: second(),
-        tells: libc::isatty(STDERR_FILENO) == 1,
+        second: second(rt),
+        tells: rt.stderr().is_terminal(),
         records: 0,
     }
 }
 
+// Writes how many records the program has so far.
+fn write_records(rt: HostRuntime, program: &[u8], records: usize) -> io::Result<()> {
+    let mut out = rt.stderr();
+    out.write_all(b"\r")?;
+    out.write_all(program)?;
+    write!(out, ": {records} records")
+}
+
 // Tells how many records the program has so far, where another second has begun and they are more
 // than were told.
-pub fn tell(w: Watch, program: &[u8], records: usize) -> Watch {
+pub fn tell(rt: HostRuntime, w: Watch, program: &[u8], records: usize) -> Watch {
     if !w.tells {
         return w;
     }
     if records <= w.records {
         return w;
     }
-    let now = second();
+    let now = second(rt);
     if now == w.second {
         return w;
     }
-    io::write_all(STDERR_FILENO, b"\r");
-    io::write_all(STDERR_FILENO, program);
-    io::write_all(STDERR_FILENO, b": ");
-    io::print_decimal(STDERR_FILENO, records as u64);
-    io::write_all(STDERR_FILENO, b" records");
+    if write_records(rt, program, records).is_err() {
+        return w;
+    }
     Watch {
         second: now,
         tells: true,
@@ -58,8 +68,9 @@ pub fn tell(w: Watch, program: &[u8], records: usize) -> Watch {
 }
 
 // Clears what was told.
-pub fn stop(w: Watch) {
+pub fn stop(rt: HostRuntime, w: Watch) {
     if 0 < w.records {
-        io::write_all(STDERR_FILENO, b"\r\x1b[K");
+        let mut out = rt.stderr();
+        let _written = out.write_all(b"\r\x1b[K").is_ok();
     }
 }

@@ -8,15 +8,17 @@ use capture::Replayed;
 use capture_file::Progress;
 use input::progress;
 use input::progress::Watch;
+use std::io;
 
 // The bytes of a piece of 512 records.
 const PIECE: usize = 2048;
 
-// The answer for a capture, unless a read failed.
+// The answer for a capture, unless a read failed, and why it did.
 #[derive(Clone, Copy)]
 pub struct Judged {
     pub replayed: Replayed,
     pub failed: bool,
+    pub error: Option<io::Error>,
     pub watch: Watch,
 }
 
@@ -28,12 +30,18 @@ pub struct Standing {
 }
 
 // Tells how many records are replayed.
-fn tell(w: Watch, records: usize) -> Watch {
-    progress::tell(w, b"replay", records)
+fn tell(rt: HostRuntime, w: Watch, records: usize) -> Watch {
+    progress::tell(rt, w, b"replay", records)
 }
 
 // Replays all whole records of the bytes that come next.
-pub fn go_on(p: Progress, bytes: &[u8], records: &mut [u32], watch: Watch) -> Standing
+pub fn go_on(
+    rt: HostRuntime,
+    p: Progress,
+    bytes: &[u8],
+    records: &mut [u32],
+    watch: Watch,
+) -> Standing
     requires place_bound { p.place ≤ 2 ^ 63 }
     requires bytes_len_bound { length bytes.now ≤ 2 ^ 62 }
     requires records_len { length records.old ≡ 512 }
@@ -46,7 +54,7 @@ pub fn go_on(p: Progress, bytes: &[u8], records: &mut [u32], watch: Watch) -> St
     while PIECE <= bytes.len() - at {
         let end = at + PIECE;
         q = capture_file::go_on(q, &bytes[at..end], records);
-        w = tell(w, q.place);
+        w = tell(rt, w, q.place);
         at = end;
     }
     Standing {
@@ -56,25 +64,27 @@ pub fn go_on(p: Progress, bytes: &[u8], records: &mut [u32], watch: Watch) -> St
 }
 
 // The answer for a capture that ends with these bytes.
-fn finish(p: Progress, bytes: &[u8], records: &mut [u32], watch: Watch) -> Judged
+fn finish(rt: HostRuntime, p: Progress, bytes: &[u8], records: &mut [u32], watch: Watch) -> Judged
     requires place_bound { p.place ≤ 2 ^ 63 }
     requires bytes_len_bound { length bytes.now ≤ 2 ^ 62 }
     requires records_len { length records.old ≡ 512 }
     ensures { result.replayed ≡ rest_of p bytes.now }
 {
-    let s = go_on(p, bytes, records, watch);
+    let s = go_on(rt, p, bytes, records, watch);
     let q = s.progress;
     let w = s.watch;
     let at = 4 * (bytes.len() / 4);
     Judged {
         replayed: capture_file::finish(q, &bytes[at..], records),
         failed: false,
+        error: None,
         watch: w,
     }
 }
 
 // The answer for a capture that ends with the first n bytes of a block.
 pub fn finish_block(
+    rt: HostRuntime,
     p: Progress,
     block: &[u8],
     n: usize,
@@ -87,5 +97,5 @@ pub fn finish_block(
     requires records_len { length records.old ≡ 512 }
     ensures { result.replayed ≡ rest_of p (take n block.now) }
 {
-    finish(p, &block[..n], records, watch)
+    finish(rt, p, &block[..n], records, watch)
 }

@@ -5,81 +5,95 @@
 
 ghost use Rattle.std.specs.Prelude.{◌≤◌, length};
 
-use libc::{STDIN_FILENO, STDOUT_FILENO};
+use std::env::Env;
+use std::fs::File;
+use std::io;
+use std::io::Write;
 use text::words;
 
+// The system's number for a name that is too long.
+const NAME_TOO_LONG: i32 = 36;
+
 // Says what the program is.
-fn help() {
-    let written = io::write_all(
-        STDOUT_FILENO,
-        b"usage: replay [--help] [FILE ..]\n\nReplays each capture FILE on the model, standard input where there is none or for -,\nand writes a line for each, after its name where there are several:\n\nagreed                      every read saw what the model answers\ndiffers PLACE SEEN MODEL    the first read that did not, counted from 0\nrefused NUMBER PLACE        6 no capture, 7 unknown version, 8 bad record, or cut off\n\nThe exit status is always 0; the answer is the line. Where reading or writing fails,\nstandard error says so, and there is no line.\n",
-    );
-    if !written {
-        arguments::tell(b"replay", b"standard output");
-    }
+fn help(rt: HostRuntime) {
+    let text =
+        b"usage: replay [--help] [FILE ..]\n\nReplays each capture FILE on the model, standard input where there is none or for -,\nand writes a line for each, after its name where there are several:\n\nagreed                      every read saw what the model answers\ndiffers PLACE SEEN MODEL    the first read that did not, counted from 0\nrefused NUMBER PLACE        6 no capture, 7 unknown version, 8 bad record, or cut off\n\nThe exit status is always 0; the answer is the line. Where reading or writing fails,\nstandard error says so, and there is no line.\n";
+    arguments::written(rt, b"replay", rt.stdout().write_all(text));
 }
 
 // Replays standard input.
-fn replay_input(several: bool, name: &[u8]) -> bool
+fn replay_input(rt: HostRuntime, several: bool, name: &[u8]) -> bool
     requires { length name.now ≤ 4096 }
 {
-    arguments::hint(b"replay: a capture is awaited on standard input (replay FILE takes a file)\n");
-    replay_file::replay(STDIN_FILENO, several, name)
+    arguments::hint(
+        rt,
+        b"replay: a capture is awaited on standard input (replay FILE takes a file)\n",
+    );
+    replay_file::replay(rt, &mut rt.stdin(), several, name)
+}
+
+// The file of this name. (Today's library opens a name that is text.)
+fn opened(rt: HostRuntime, name: &[u8]) -> io::Result<File> {
+    match str::from_utf8(name) {
+        Ok(path) => File::open(&rt, path),
+        Err(_) => Err(io::Error::from(io::ErrorKind::InvalidFilename)),
+    }
 }
 
 // Replays the capture of this name.
-fn replay_named(several: bool, name: &[u8]) -> bool
+fn replay_named(rt: HostRuntime, several: bool, name: &[u8]) -> bool
     requires { length name.now ≤ 4096 }
 {
     if words::same(name, b"-") {
-        return replay_input(several, name);
+        return replay_input(rt, several, name);
     }
-    let fd = os::open_read(name);
-    if fd < 0 {
-        arguments::tell(b"replay", name);
-        return true;
+    match opened(rt, name) {
+        Ok(mut file) => replay_file::replay(rt, &mut file, several, name),
+        Err(e) => {
+            arguments::tell(rt, b"replay", name, e);
+            true
+        }
     }
-    let written = replay_file::replay(fd, several, name);
-    libc::close(fd);
-    written
 }
 
 // Replays the capture that an argument names. Answers whether its answer could be written.
-fn replay_argument(several: bool, i: usize) -> bool {
-    let mut space = io::buffer();
-    let n = os::arg(i, &mut space);
-    if os::errno() != 0 {
-        os::fail(b"replay: an argument");
-        return true;
+fn replay_argument(rt: HostRuntime, several: bool, i: usize) -> bool {
+    let mut space = [0u8; 4096];
+    match rt.arg(i, &mut space) {
+        Ok(n) => replay_named(rt, several, &space[..n]),
+        Err(_) => {
+            let long = io::Error::from_raw_os_error(NAME_TOO_LONG);
+            arguments::tell(rt, b"replay", b"an argument", long);
+            true
+        }
     }
-    replay_named(several, &space[..n])
 }
 
 // Replays the captures that the arguments name, until an answer cannot be written.
-fn replay_all(count: usize) {
+fn replay_all(rt: HostRuntime, count: usize) {
     let mut i: usize = 1;
     while i < count {
-        if !replay_argument(2 < count, i) {
+        if !replay_argument(rt, 2 < count, i) {
             return;
         }
         i += 1;
     }
 }
 
-fn main() {
-    let count = os::arg_count();
+fn main(rt: HostRuntime) {
+    let count = arguments::count(rt);
     if count < 2 {
-        replay_input(false, b"standard input");
+        replay_input(rt, false, b"standard input");
         return;
     }
-    let option = arguments::first_option(count);
+    let option = arguments::first_option(rt, count);
     if count <= option {
-        replay_all(count);
+        replay_all(rt, count);
         return;
     }
-    if arguments::is(option, b"--help") {
-        help();
+    if arguments::is(rt, option, b"--help") {
+        help(rt);
         return;
     }
-    arguments::refuse(b"replay", option);
+    arguments::refuse(rt, b"replay", option);
 }

@@ -1,31 +1,39 @@
-// Reads a capture from a file descriptor, 8,192 records at a time, replays it from the fresh state,
+// Reads a capture from a reader, 8,192 records at a time, replays it from the fresh state,
 // and writes how that ended.
 #![tactic(auto)]
 
-ghost use Rattle.std.specs.Prelude.{◌≡◌, false, ◌+◌, ◌≤◌, ◌<◌, ◌^◌, length};
-ghost use Rattle.io.specs.Counts.{IsPrefixLen};
+ghost use Rattle.std.specs.Prelude.{◌≡◌, false, ◌+◌, ◌≤◌, ◌<◌, ◌^◌, length, take};
 ghost use Rattle.replay_file.specs.Captures.{OfRest, OfFile};
 
-use arguments::tell;
+use arguments::{tell, written};
 use capture_file::Progress;
 use input::progress::Watch;
 use input::{Filled, progress};
 use pieces::Judged;
+use std::io;
+use std::io::Read;
 
 // More blocks than any run reads. A proved loop has to end, so it counts down from here.
 const BLOCKS: usize = 1125899906842624;
 
 // Fills a block, of which the first record has this place.
-fn fill(fd: i32, block: &mut [u8], place: usize, started: Watch) -> Filled
+fn fill<R: Read>(
+    rt: HostRuntime,
+    input: &mut R,
+    block: &mut [u8],
+    place: usize,
+    started: Watch,
+) -> Filled
     requires { place + length block.old < 2 ^ 64 }
-    ensures { IsPrefixLen result.count block.new }
+    ensures { (result.count ≤ length block.new) × (result.count ≡ length (take result.count block.new)) }
 {
-    input::fill(fd, block, place, b"replay", started)
+    input::fill(rt, input, block, place, b"replay", started)
 }
 
 // Replays the records that follow the header, block by block.
-fn replay_blocks(
-    fd: i32,
+fn replay_blocks<R: Read>(
+    rt: HostRuntime,
+    input: &mut R,
     begun: Progress,
     block: &mut [u8],
     records: &mut [u32],
@@ -46,39 +54,41 @@ fn replay_blocks(
             return Judged {
                 replayed: so_far,
                 failed: false,
+                error: None,
                 watch,
             };
         }
-        let f = fill(fd, block, p.place, watch);
+        let f = fill(rt, input, block, p.place, watch);
         let w = f.watch;
         let n = f.count;
         if f.failed {
             return Judged {
                 replayed: so_far,
                 failed: true,
+                error: f.error,
                 watch: w,
             };
         }
         if n < block.len() {
-            return pieces::finish_block(p, block, n, records, w);
+            return pieces::finish_block(rt, p, block, n, records, w);
         }
-        let s = pieces::go_on(p, block, records, w);
+        let s = pieces::go_on(rt, p, block, records, w);
         p = s.progress;
         watch = s.watch;
         blocks -= 1;
     }
-    pieces::finish_block(p, block, 0, records, watch)
+    pieces::finish_block(rt, p, block, 0, records, watch)
 }
 
-// The answer for the capture that a file descriptor gives.
-fn judge(fd: i32) -> Judged
+// The answer for the capture that a reader gives.
+fn judge<R: Read>(rt: HostRuntime, input: &mut R) -> Judged
     ensures { result.failed ≡ false → OfFile result.replayed }
 {
-    let watch = progress::start();
+    let watch = progress::start(rt);
     let mut header = [0u8; 8];
     let mut block = [0u8; 32768];
     let mut records = [0u32; 512];
-    let f = fill(fd, &mut header, 0, progress::silent());
+    let f = fill(rt, input, &mut header, 0, progress::silent());
     let n = f.count;
     let p = capture_file::begin(&header[..n]);
     if f.failed {
@@ -86,33 +96,37 @@ fn judge(fd: i32) -> Judged
         return Judged {
             replayed,
             failed: true,
+            error: f.error,
             watch,
         };
     }
     if n < 8 {
-        return pieces::finish_block(p, &header, 0, &mut records, watch);
+        return pieces::finish_block(rt, p, &header, 0, &mut records, watch);
     }
-    replay_blocks(fd, p, &mut block, &mut records, watch)
+    replay_blocks(rt, input, p, &mut block, &mut records, watch)
 }
 
-// Replays the capture that a file descriptor gives, and writes how it ended, after its name where
+// Tells why a read failed.
+fn tell_unread(rt: HostRuntime, name: &[u8], error: Option<io::Error>) {
+    if let Some(e) = error {
+        tell(rt, b"replay", name, e);
+    }
+}
+
+// Replays the capture that a reader gives, and writes how it ended, after its name where
 // there are several. Where reading or writing fails, standard error says why. Answers whether the
 // answer could be written.
-pub fn replay(fd: i32, several: bool, name: &[u8]) -> bool
+pub fn replay<R: Read>(rt: HostRuntime, input: &mut R, several: bool, name: &[u8]) -> bool
     requires { length name.now ≤ 4096 }
 {
-    let j = judge(fd);
+    let j = judge(rt, input);
     let watch = j.watch;
-    progress::stop(watch);
+    progress::stop(rt, watch);
     if j.failed {
-        tell(b"replay", name);
+        tell_unread(rt, name, j.error);
         return true;
     }
     let r = j.replayed;
     let o = r.outcome;
-    if answer_line::say(several, name, o) {
-        return true;
-    }
-    tell(b"replay", b"standard output");
-    false
+    written(rt, b"replay", answer_line::say(rt, several, name, o))
 }

@@ -1,6 +1,10 @@
 // Replays the captures 000, 001, .. of the folder that it runs in, and writes a line for each.
 #![tactic(auto)]
 
+ghost use Rattle.std.specs.Prelude.{◌≤◌, length};
+
+use std::fs::File;
+
 const MOST: u32 = 1000;
 
 // A digit's character.
@@ -13,16 +17,27 @@ fn name(n: u32) -> [u8; 3] {
     [glyph(n / 100), glyph(n / 10), glyph(n)]
 }
 
-fn main() {
+// Replays the capture of this name, and answers whether there is one.
+fn replayed(rt: HostRuntime, path: &[u8]) -> bool
+    requires { length path.now ≤ 4096 }
+{
+    let Ok(name) = str::from_utf8(path) else {
+        return false;
+    };
+    let Ok(mut file) = File::open(&rt, name) else {
+        return false;
+    };
+    replay_file::replay(rt, &mut file, false, path);
+    true
+}
+
+fn main(rt: HostRuntime) {
     let mut n: u32 = 0;
     while n < MOST {
         let path = name(n);
-        let fd = os::open_read(&path);
-        if fd < 0 {
+        if !replayed(rt, &path) {
             return;
         }
-        replay_file::replay(fd, false, &path);
-        libc::close(fd);
         n += 1;
     }
 }

@@ -1,7 +1,7 @@
 // A turn of the program `calls`: standard input is read once, and what came is answered.
 #![tactic(auto)]
 
-ghost use Rattle.std.specs.Prelude.{◌≡◌, true, false, List, ℕ, suc, ◌+◌, ◌≤◌, length, take};
+ghost use Rattle.std.specs.Prelude.{◌≡◌, true, false, List, ℕ, suc, ◌+◌, ◌≤◌, length, take, IfOk};
 ghost use Rattle.command.specs.Command.{most_numbers, longest_line};
 ghost use Rattle.numbers.specs.Numbers.{state_count};
 ghost use Rattle.current.specs.Current.{longest_answer};
@@ -10,27 +10,16 @@ ghost use Rattle.lines.specs.Lines.{Led, LedOn};
 
 use blocks::Held;
 use current::Session;
-use libc::STDIN_FILENO;
-
-// What a read gave: how many bytes, or that it failed.
-#[derive(Clone, Copy)]
-struct Got {
-    count: usize,
-    failed: bool,
-}
+use std::io;
+use std::io::{ErrorKind, Read};
 
 // Reads once into a block, after its first `used` bytes.
-fn read_after(block: &mut [u8], used: usize) -> Got
+fn read_after(rt: HostRuntime, block: &mut [u8], used: usize) -> io::Result<usize>
     requires { used ≤ length block.old }
     ensures block_unchanged { take used block.new ≡ take used block.old }
-    ensures count_in_bounds { used + result.count ≤ length block.new }
+    ensures count_in_bounds { IfOk result (λ n. used + n ≤ length block.new) }
 {
-    let got = libc::read(STDIN_FILENO, &mut block[used..]);
-    let count = io::count(got, &block[used..]);
-    Got {
-        count,
-        failed: got < 0,
-    }
+    rt.stdin().read(&mut block[used..])
 }
 
 // The end of a run.
@@ -46,27 +35,26 @@ fn over(session: Session) -> Held
 }
 
 // After a read that failed: one that a signal interrupted is made again, any other ends the run.
-fn unread(t: Held) -> Held
+fn unread(rt: HostRuntime, t: Held, error: io::Error) -> Held
     ensures used_le_used { result.used ≤ t.used }
     ensures value { result.more ≡ true → result ≡ t }
 {
-    if os::errno() == libc::EINTR {
+    if error.kind() == ErrorKind::Interrupted {
         return t;
     }
-    os::fail(b"calls: standard input");
+    arguments::tell(rt, b"calls", b"standard input", error);
     let session = t.session;
     over(session)
 }
 
 // Tells where what was to be written could not be.
-pub fn tell(written: bool) {
-    if !written {
-        os::fail(b"calls: standard output");
-    }
+pub fn tell(rt: HostRuntime, written: io::Result<()>) {
+    arguments::written(rt, b"calls", written);
 }
 
 // Reads once, and answers what came.
 pub fn turn(
+    rt: HostRuntime,
     t: Held,
     block: &mut [u8],
     numbers: &mut [u32],
@@ -82,18 +70,15 @@ pub fn turn(
     ensures used_bound_2 { result.used ≤ suc longest_line }
 {
     let used = t.used;
-    let got = read_after(block, used);
-    if got.failed {
-        return unread(t);
-    }
-    let n = got.count;
     let s = t.session;
-    if n == 0 {
-        tell(blocks::finish(s, &block[..used], numbers, kept, out));
-        return over(s);
+    match read_after(rt, block, used) {
+        Err(e) => unread(rt, t, e),
+        Ok(n) => {
+            if n == 0 {
+                blocks::finish(rt, s, &block[..used], numbers, kept, out);
+                return over(s);
+            }
+            blocks::answer_read(rt, s, block, used + n, numbers, kept, out)
+        }
     }
-    let end = used + n;
-    let r = blocks::answer_read(s, block, end, numbers, kept, out);
-    tell(r.more);
-    r
 }
