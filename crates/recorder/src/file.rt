@@ -1,6 +1,6 @@
 // The file: words of its bytes and bytes of its words, and its header.
 ghost use Rattle.std.specs.Prelude.{◌≡◌, [], ◌∷◌, ◌≤◌, ◌*◌, ◌/◌, length, take, drop};
-ghost use Rattle.recorder.specs.File.{word_of, words_of, bytes_of, good_header, version as «version_of», known as «known-version», bad_header, headed as «headed-of», header_of};
+ghost use Rattle.recorder.specs.File.{word_of, words_of, bytes_of, good_header, version as «version_of», known as «known-version», bad_header, headed as headed_of, header_of};
 
 use sheet::answer;
 
@@ -87,7 +87,7 @@ fn bad_header(number: u8) -> Header
 
 // The header of these two words.
 fn headed(first: u32, second: u32) -> Header
-    ensures { result ≡ «header_of» (first ∷ second ∷ []) }
+    ensures { result ≡ headed_of (first ∷ second ∷ []) }
 {
     if !good_header(first, second) {
         return bad_header(answer::BAD_HEADER);

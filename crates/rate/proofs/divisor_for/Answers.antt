@@ -13,26 +13,26 @@ pub returns-then-not-within : goal.returns-then-not-within
 unfolding divisor_for
 returns-then-not-within c =
     let a = c.args in
-    let out : within a.clock a.rate ≡ false = sym c.within.ensures ∙ not-true _ c.if-not-within.true-raw in
+    let out : within a.clock a.rate ≡ false = sym c.within.ensures ∙ c.if-not-within.true in
     record { outcome = rw out; nearest = λ e. absurd (omega arith); no_other = λ e. absurd (omega arith) }
 
 pub nearest-divisor-requires : goal.nearest-divisor-requires
 nearest-divisor-requires c =
     let a = c.args in
-    let p = inside a.clock a.rate (sym c.within.ensures ∙ not-false _ c.if-not-within.false-raw) in
+    let p = inside a.clock a.rate (sym c.within.ensures ∙ c.if-not-within.false) in
     record { le_rate = p.2; rate_bound = p.3 }
 
 pub error_of-requires : goal.error_of-requires
 error_of-requires c =
     let a = c.args in
-    let p = inside a.clock a.rate (sym c.within.ensures ∙ not-false _ c.if-not-within.false-raw) in
+    let p = inside a.clock a.rate (sym c.within.ensures ∙ c.if-not-within.false) in
     record { clock_bound = p.1; le_rate = p.2; rate_bound = p.3; nearest = c.nearest-divisor.ensures }
 
 pub returns : goal.returns
 unfolding divisor_for
 returns c =
     let a = c.args in
-    let into : within a.clock a.rate ≡ true = sym c.within.ensures ∙ not-false _ c.if-not-within.false-raw in
+    let into : within a.clock a.rate ≡ true = sym c.within.ensures ∙ c.if-not-within.false in
     let near = c.nearest-divisor.ensures in
     let same : c.nearest-divisor.result ≡ divisor_of a.clock a.rate = only_one near (found a.clock a.rate 65534) in
     let error = to_z-of_z w32 c.error_of.result (record { sfits = c.error_of.type_inv }) ∙ c.error_of.ensures in

@@ -21,7 +21,10 @@ returns c =
     let bytes = c.args.bytes.now in
     let words = c.loop-i.words in
     let n : c.loop-i.i ≡ length bytes / 4 = omega (arith, c.loop-i.invariant.most) in
-    let room : length bytes / 4 ≤ length words = omega (arith, c.loop-i.invariant.long) in (
-      ap (λ (m : ℕ). take m words) (sym n) ∙ decode_ends c.loop-i.invariant (omega arith),
-      (refl, (room, sym (length-take-le _ words room))),
-    )
+    let room : length bytes / 4 ≤ length words = omega (arith, c.loop-i.invariant.long) in
+    record {
+      words_after = ap (λ (m : ℕ). take m words) (sym n) ∙ decode_ends c.loop-i.invariant (omega arith);
+      value = refl;
+      upper_bound = room;
+      value_2 = sym (length-take-le _ words room);
+    }

@@ -12,7 +12,7 @@ pub returns-then-first-lt8 : goal.returns-then-first-lt8
 returns-then-first-lt8 c = c.bad_header.ensures ∙ sym (header_short _ (omega (arith, c.if-first-lt8.true)))
 
 pub slice_bounds-decode-end : goal.slice_bounds-decode-end
-slice_bounds-decode-end c = let first = c.args.first.now in sym (length-take-le 8 first (omega (arith, c.if1.false)))
+slice_bounds-decode-end c = let first = c.args.first.now in sym (length-take-le 8 first (omega (arith, c.if-first-lt8.false)))
 
 pub decode-requires : goal.decode-requires
 decode-requires c =
@@ -26,5 +26,5 @@ returns c =
     let first = c.args.first.now in
     let decode = c.decode in
     let words = decode.new.words in
-    let long : 8 ≤ length first = omega (arith, c.if1.false) in
-    c.headed.ensures ∙ ap headed (sym (sym decode.ensures.words_after ∙ two-words words decode.result decode.auto.words.0 (omega (arith, decode.ensures.value, length-take-le 8 first long))))
+    let long : 8 ≤ length first = omega (arith, c.if-first-lt8.false) in
+    c.headed.ensures ∙ ap headed (sym (sym decode.ensures.words_after ∙ two-words words decode.result decode.auto.words (omega (arith, decode.ensures.value, length-take-le 8 first long))))

@@ -15,7 +15,7 @@ pub loop-i-preserved : goal.loop-i-preserved
 loop-i-preserved c =
     write_turns _ _ _ _ c.loop-i.invariant c.loop-i-test.true c.long-n.ensures.value c.long-n.ensures.upper_bound
     (c.separator-after.ensures ∙ separates c.args.numbers.now (c.loop-i.i + 1))
-    c.put_word-end.auto.after.1.0 c.put_word-end.ensures
+    c.put_word-end.auto.out c.put_word-end.ensures
 
 pub shape_of-out : goal.shape_of-out
 shape_of-out c = c.loop-i.invariant.long
