@@ -6,8 +6,8 @@ use Rattle.device.specs.declared.State.{State}
 use Rattle.device.specs.Autoflow.{settled}
 use Rattle.device.specs.Tick.{pulsed}
 use Rattle.invariant.proofs.Settled.{Kept}
-use Rattle.quiet.specs.Quiet.{pulses_of}
-use Rattle.quiet.proofs.Kept.{pulses_kept}
+use Rattle.quiet_pulses.specs.Quiet.{pulses_of}
+use Rattle.quiet_pulses.proofs.Kept.{pulses_kept}
 use Rattle.clock.proofs.Pulsed.{pulses_sum}
 
 -- with so many of the n pulses left, the others are made

@@ -11,8 +11,8 @@ use Rattle.device.specs.Tick.{pulsed}
 use Rattle.device.specs.Calls.{ticks_of}
 use Rattle.invariant.proofs.Settled.{Kept}
 use Rattle.invariant.proofs.Touched.{pulsed_touches}
-use Rattle.quiet.specs.Quiet.{pulses_of}
-use Rattle.quiet.proofs.Kept.{pulses_kept}
+use Rattle.quiet_pulses.specs.Quiet.{pulses_of}
+use Rattle.quiet_pulses.proofs.Kept.{pulses_kept}
 use Rattle.clock.proofs.Event.{pulse_k}
 use Rattle.clock.proofs.Ticked.{ticks-sum, ticks-count, ticks_pulse, k_kept}
 

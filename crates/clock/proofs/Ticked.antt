@@ -12,7 +12,7 @@ use Rattle.invariant.proofs.Good.{good_of}
 use Rattle.invariant.proofs.Settled.{sound_of, Kept, settled-kept}
 use Rattle.invariant.proofs.Parts.{sound_registers}
 use Rattle.invariant.proofs.Steps.{tick_kept, ticks-kept}
-use Rattle.quiet.proofs.Kept.{kept-settled}
+use Rattle.quiet_pulses.proofs.Kept.{kept-settled}
 
 -- some ticks, and then some more
 pub ticks-sum : (a b : ℕ) (s : State) → ticks_of (a + b) s ≡ ticks_of b (ticks_of a s)

@@ -2,7 +2,7 @@
 ghost use Rattle.std.specs.Prelude.{◌≡◌, true};
 ghost use Rattle.device.specs.State.{with_k};
 ghost use Rattle.device.specs.Ranges.{well_formed};
-ghost use Rattle.quiet.specs.Quiet.{pulses_of};
+ghost use Rattle.quiet_pulses.specs.Quiet.{pulses_of};
 
 use device::State;
 use line::{idle, transmitter};
@@ -25,12 +25,12 @@ pub fn pulses(s: State, k: u32, n: u32) -> State
         let f = t.fifo;
         let i = t.inputs;
         let looped = modem::loopback(r);
-        let m = quiet::reach(t, left);
+        let m = quiet_pulses::reach(t, left);
         let before = t.frame;
         if 0 < m {
-            t.frame = quiet::shift_by(m, before);
-            t.receiver = quiet::hear_by(looped, before, i.sin, m, t.receiver);
-            t.latches = quiet::later_by(f, t.rx.count, r.lcr, m, t.latches);
+            t.frame = quiet_pulses::shift_by(m, before);
+            t.receiver = quiet_pulses::hear_by(looped, before, i.sin, m, t.receiver);
+            t.latches = quiet_pulses::later_by(f, t.rx.count, r.lcr, m, t.latches);
             left -= m;
             continue;
         }

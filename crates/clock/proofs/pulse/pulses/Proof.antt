@@ -16,9 +16,9 @@ use Rattle.device.specs.Idle.{counts, time_out_at, counted}
 use Rattle.device.specs.Receiver.{heard, receiver_pulse, receiver_pulse_of}
 use Rattle.device.specs.Transmitter.{line, ready, shifted_out}
 use Rattle.invariant.proofs.Settled.{Kept}
-use Rattle.quiet.specs.Needs.{Hearing}
-use Rattle.quiet.specs.Quiet.{reach_of, shifted_by, heard_by as heard_quietly}
-use Rattle.quiet.proofs.Quiet.{quiet_by, quiet_hearing, quiet_pulses}
+use Rattle.quiet_pulses.specs.Needs.{Hearing}
+use Rattle.quiet_pulses.specs.Quiet.{reach_of, shifted_by, heard_by as heard_quietly}
+use Rattle.quiet_pulses.proofs.Quiet.{quiet_by, quiet_hearing, quiet_pulses}
 use Rattle.receiver.specs.Needs.{Sampling}
 use Rattle.queue.specs.Queue.{put_entry, is_full}
 use Rattle.queue.proofs.Laws.{length_mapped}

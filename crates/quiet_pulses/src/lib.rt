@@ -1,0 +1,185 @@
+// The quiet pulses: those before the next event, in which a byte is loaded, or a character begins or
+// ends. Until then only L, P with its samples and the idle count change, and any number of pulses is
+// made at once: `shift_by`, `hear_by`, `later_by`.
+//
+// `reach` counts them. That m of them are m pulses of `Tick.antt` is the law `quiet-pulses`.
+#![tactic(auto)]
+
+ghost use Rattle.std.specs.Prelude.{◌≡◌, ◌+◌, ◌≤◌, min};
+ghost use Rattle.quiet_pulses.specs.Needs.{Hearing};
+ghost use Rattle.quiet_pulses.specs.Quiet.{sends as «sends-of», shifted_by, low_heard, place_heard, low_from, false_start, character_hears, hears as «hears-of», heard_by, counted_by, later_by, reach_of};
+
+use device::{CHARACTER, FifoControl, Frame, Latches, Receiver, State, WAITING};
+use line::{idle, transmitter};
+use receiver::samples;
+use settings::{modem, sampling};
+use sheet::limits;
+
+// No event comes: as many pulses as a call can ask for.
+const NEVER: u32 = 4294967295;
+
+// All of 32 bits low: a character has fewer.
+const ALL_LOW: u32 = 4294967295;
+
+// The pulses before a byte is loaded, with so many left of the frame, where one is ready or not.
+fn sends(ready: bool, left: u32) -> u32
+    ensures { result ≡ «sends-of» ready left }
+{
+    if ready {
+        return frame::less(left, 1);
+    }
+    NEVER
+}
+
+// The low bits of the line that the receiver hears: in loopback those of the frame, else SIN's.
+fn low_heard(loopback: bool, x: Frame, sin: u8) -> u32
+    ensures { result ≡ low_heard loopback x sin }
+{
+    if loopback {
+        return frame::low_bits(x.byte, x.format);
+    }
+    if sin == 1 {
+        return 0;
+    }
+    ALL_LOW
+}
+
+// The place in them now.
+fn place_heard(loopback: bool, x: Frame) -> u32
+    ensures { (result ≡ place_heard loopback x) × (result ≤ 192) }
+{
+    if loopback {
+        return frame::less(frame::frame_length(x.format), x.left);
+    }
+    0
+}
+
+// The low bits from i pulses on.
+fn low_from(loopback: bool, x: Frame, sin: u8, i: u32) -> u32
+    requires { i ≤ 8 }
+    ensures { result ≡ low_from loopback x sin i }
+{
+    let at = (place_heard(loopback, x) + i) / 16;
+    low_heard(loopback, x, sin) >> at
+}
+
+// Whether the start sample of a character is still to come, and will be high.
+fn false_start(loopback: bool, x: Frame, sin: u8, position: u32) -> bool
+    ensures { result ≡ false_start loopback x sin position }
+{
+    if 8 <= position {
+        return false;
+    }
+    low_from(loopback, x, sin, 8 - position) % 2 == 0
+}
+
+// The pulses of a character before a false start's sample, or before its stop sample.
+fn character_hears(loopback: bool, x: Frame, sin: u8, v: Receiver) -> u32
+    ensures { result ≡ character_hears loopback x sin v }
+{
+    let position = v.position;
+    if false_start(loopback, x, sin, position) {
+        return frame::less(7, position);
+    }
+    frame::less(sampling::stop_position(v.format) - 1, position)
+}
+
+// The pulses before a character begins or ends.
+fn hears(loopback: bool, x: Frame, sin: u8, v: Receiver) -> u32
+    ensures { result ≡ «hears-of» loopback x sin v }
+{
+    if v.phase == CHARACTER {
+        return character_hears(loopback, x, sin, v);
+    }
+    if v.phase == WAITING {
+        if flag::both(!loopback, sin == 0) {
+            return NEVER;
+        }
+        return 0;
+    }
+    if low_from(loopback, x, sin, 1) == 0 {
+        return NEVER;
+    }
+    0
+}
+
+// The frame m pulses later.
+pub fn shift_by(m: u32, x: Frame) -> Frame
+    ensures { result ≡ shifted_by m x }
+{
+    let left = x.left;
+    if left <= m {
+        return transmitter::no_frame();
+    }
+    let mut next = x;
+    next.left = left - m;
+    next
+}
+
+// The receiver m pulses later.
+pub fn hear_by(loopback: bool, x: Frame, sin: u8, m: u32, v: Receiver) -> Receiver
+    requires { Hearing loopback x m v }
+    ensures { result ≡ heard_by loopback x sin m v }
+{
+    if v.phase != CHARACTER {
+        return v;
+    }
+    let place = place_heard(loopback, x);
+    samples::sample_by(low_heard(loopback, x, sin), place, m, v)
+}
+
+// The idle count m pulses later.
+fn more(m: u32, n: u32) -> u32
+    requires { n ≤ 769 }
+    ensures { result ≡ min (n + m) 769 }
+{
+    if m < limits::IDLE_MOST - n {
+        n + m
+    } else {
+        limits::IDLE_MOST
+    }
+}
+
+// The latches m pulses later, with the idle count going on.
+fn count_by(limit: u32, m: u32, l: Latches) -> Latches
+    requires { (1 ≤ m) × (l.idle ≤ 769) }
+    ensures { result ≡ counted_by limit m l }
+{
+    let n = more(m, l.idle);
+    let mut next = l;
+    next.timeout = idle::time_out(limit, n, l.timeout);
+    next.idle = n;
+    next
+}
+
+// The latches m pulses later, with `received` characters queued.
+pub fn later_by(f: FifoControl, received: u32, lcr: u8, m: u32, l: Latches) -> Latches
+    requires { (1 ≤ m) × (l.idle ≤ 769) }
+    ensures { result ≡ later_by f received lcr m l }
+{
+    if idle::counts(f, received) {
+        return count_by(idle::limit(lcr), m, l);
+    }
+    l
+}
+
+// The smaller of two numbers.
+fn smaller(a: u32, b: u32) -> u32
+    ensures { result ≡ min a b }
+{
+    if a < b { a } else { b }
+}
+
+// The pulses before the next event, `most` at most.
+pub fn reach(s: State, most: u32) -> u32
+    ensures { result ≡ min (reach_of s) most }
+{
+    let r = s.registers;
+    let x = s.frame;
+    let f = s.fifo;
+    let i = s.inputs;
+    let v = s.receiver;
+    let sent = sends(transmitter::ready(s.tx.count, r, f, i), x.left);
+    let heard = hears(modem::loopback(r), x, i.sin, v);
+    smaller(smaller(sent, heard), most)
+}
