@@ -4,12 +4,10 @@ use mathlib.Core.Bool.{true, ◌&&◌}
 use lib.Dec.{leb}
 use native.Mathlib.Omega.{arith}
 use borrow.Author.Tests.{leb-true}
-use borrow.Author.Rules.{rules}
 use Rattle.flag.proofs.Laws.{and_left, and_right}
 use Rattle.queue.specs.declared.Errors.{Errors}
 use Rattle.queue.specs.Queue.{no_errors, errors_within}
-use Rattle.fifos.proofs.lsr.none_of.Statement.{statement}
-use Rattle.fifos.proofs.lsr.none_of.Tie as tie
+use Rattle.fifos.proofs.lsr.none_of.Goals as goal
 
 within_none : (e : Errors) → errors_within 0 e ≡ true → e ≡ no_errors
 within_none e t =
@@ -19,8 +17,5 @@ within_none e t =
     let bi : e.bi ≡ 0 = omega (arith, leb-true e.bi 0 (and_right (leb e.fe 0) (leb e.bi 0) t')) in
     rw (pe, fe, bi)
 
-returns : tie.Need-returns
-returns c = λ h. within_none _ (sym c.errors-within.ensures ∙ h)
-
-pub none-of-spec : {M : Type 1} → statement M
-none-of-spec = tie.close (tie.spec (λ c κs. search rules) returns)
+pub returns : goal.returns
+returns c = λ h. within_none _ (sym c.errors_within.ensures ∙ h)
