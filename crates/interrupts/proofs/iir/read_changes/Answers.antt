@@ -7,10 +7,10 @@ use Rattle.device.specs.declared.State.{State}
 use Rattle.device.specs.State.{with_latches, with_empty}
 use Rattle.device.specs.Iir.{iir_read, interrupt_code}
 use borrow.Author.Tests.{eqb-true, not-false}
-use Rattle.interrupts.proofs.iir.read_changes.Statement.{statement}
-use Rattle.interrupts.proofs.iir.read_changes.Tie as tie
+use Rattle.interrupts.proofs.iir.read_changes.Goals as goal
 
 -- where a read finds nothing to clear, the state stays
+
 iir-kept : (s : State) → s.latches.empty ≡ 0 → (iir_read s).state ≡ s
 unfolding iir_read
 iir-kept s e =
@@ -18,8 +18,5 @@ iir-kept s e =
     (λ _. ap (λ (n : ℕ). with_latches s (with_empty s.latches n)) (sym e))
     (λ _. refl)
 
-returns : tie.Need-returns
+pub returns : goal.returns
 returns c = λ e. iir-kept _ (eqb-true _ _ (not-false _ e))
-
-pub read-changes-spec : {M : Type 1} → statement M
-read-changes-spec = tie.close (tie.spec returns)
