@@ -1,7 +1,7 @@
 // What the programs do with their arguments, and what they say on standard error.
 #![tactic(auto)]
 
-ghost use Rattle.std.specs.Prelude.{◌≡◌, is_ok};
+ghost use Rattle.std.specs.Prelude.{◌≡◌, ◌≤◌, length, take, is_ok};
 
 use std::env::{Env, FillError};
 use std::io;
@@ -21,7 +21,7 @@ pub fn count(rt: HostRuntime) -> usize {
 
 // The length of an argument at the start of a buffer; 0 where there is none, or no room for it.
 fn argument(rt: HostRuntime, i: usize, space: &mut [u8]) -> usize
-    ensures { IsWithin result space.new }
+    ensures { (result ≤ length space.new) × (result ≡ length (take result space.new)) }
 {
     match rt.arg(i, space) {
         Ok(n) => n,
