@@ -19,15 +19,14 @@ use lib.ListN.{get_or, set}
 use native.Mathlib.Omega.{arith}
 use borrow.Author.Tests.{not-true, not-false}
 use borrow.Author.Rules.{rules}
+use Rattle.sequence.proofs.follow.Goals.{in-0, in-1, in-2, in-3, in-4, in_default}
 use Rattle.sequence.proofs.follow.Goals as goal
-
--- A good record stands at the place.
 
 pub loop-expected-init : goal.loop-expected-init
 loop-expected-init c = follow_begins _ _ _ _ (record { well = c.requires; places = record { bytes_long = search rules; entries_long = search (length_mapped, c.well_formed.0.1.1.1.1.1.1.1.1.0, rules) } })
 
 pub bounds-records-i : goal.bounds-records-i
-bounds-records-i c = good-within _ _ (sym c.good_at.ensures ∙ not-false _ c.if-not-good_at.false-raw)
+bounds-records-i c = good-within _ _ (sym c.good_at.ensures ∙ c.if-not-good_at.false)
 
 pub expects-expected-requires : goal.expects-expected-requires
 expects-expected-requires c = c.loop-expected.invariant.kept.well
@@ -55,10 +54,10 @@ other-t-requires c =
     record { s_value = c.loop-expected.invariant.kept.well; fact = way.other five }
 
 pub overflow_add-i : goal.overflow_add-i
-overflow_add-i c = omega (arith, inside c, c.well_formed.1.0.0)
+overflow_add-i c = omega (arith, good-within _ _ (sym c.good_at.ensures ∙ c.if-not-good_at.false), c.well_formed.1.0.0)
 
 pub loop-expected-smaller : goal.loop-expected-smaller
-loop-expected-smaller c = omega (arith, inside c)
+loop-expected-smaller c = omega (arith, good-within _ _ (sym c.good_at.ensures ∙ c.if-not-good_at.false))
 
 pub loop-expected-preserved : goal.loop-expected-preserved
 loop-expected-preserved c =
@@ -71,28 +70,32 @@ loop-expected-preserved c =
     let well = loop.invariant.kept.well in
     let way = c.way.ensures in
     let expects = c.expects-expected.ensures in
-    let good = good_there records i (found c) in
+    let good = good_there records i (sym c.good_at.ensures ∙ c.if-not-good_at.false) in
     let goes : follows args.compare t w ≡ true =
-    is_followed args.compare t w expects.1 good (c.stops.ensures ∙ ap (λ (v : ℕ). args.compare && not (eqb v w)) expects.0) ∙ ap not c.if-stops.false in
-    let put : c.put.new.words ≡ set loop.words i (expected t w) = c.put.ensures ∙ ap (set loop.words i) expects.0 in
+    is_followed args.compare t w expects.w_bound good (c.stops.ensures ∙ ap (λ (v : ℕ). args.compare && not (eqb v w)) expects.value) ∙ ap not c.if-stops.false in
+    let put : c.put.new.words ≡ set loop.words i (expected t w) = c.put.ensures ∙ ap (set loop.words i) expects.value in
     let next : c.match-way.t ≡ (step_of t w).state =
-    ⊎_elim (λ x. x.1 ∙ sym (way.nothing x.0.keys1))
-    (⊎_elim
-    (λ x. x.5 ∙ ap (λ (n : Numbers). with_latches (with_baud (with_registers t n.registers) n.baud) n.latches) x.1.ensures ∙ sym (numbers_step t w well (way.numbers x.0.keys2)))
-    (⊎_elim
-    (λ x. x.4 ∙ ap (λ (n : Queued). with_latches (with_tx t n.tx) n.latches) x.1.ensures ∙ sym (transmit_step t w well (way.transmit x.0.keys3)))
-    (⊎_elim (λ x. x.2 ∙ x.1.ensures) (⊎_elim (λ x. x.2 ∙ x.1.ensures) (λ x. x.2 ∙ x.1.ensures)))))
-    c.match-way.branch in
-    rw (next, put) (follow_turns loop.invariant (inside c) expects.1 good goes)
+    elim c.match-way.branch [
+      in-0 x ↦ x.t-is ∙ sym (way.nothing x.in-0.is)
+    | in-1 x ↦ x.t-is ∙ ap (λ (n : Numbers). with_latches (with_baud (with_registers t n.registers) n.baud) n.latches) x.numbers-n.ensures ∙ sym (numbers_step t w well (way.numbers x.in-1.is))
+    | in-2 x ↦ x.t-is ∙ ap (λ (n : Queued). with_latches (with_tx t n.tx) n.latches) x.transmit-n.ensures ∙ sym (transmit_step t w well (way.transmit x.in-2.is))
+    | in-3 x ↦ x.t-is ∙ x.after_read-t.ensures
+    | in-4 x ↦ x.t-is ∙ x.ticks-t.ensures
+    | in_default x ↦ x.t-is ∙ x.other-t.ensures
+    ] in
+    rw (next, put) (follow_turns loop.invariant (good-within _ _ (sym c.good_at.ensures ∙ c.if-not-good_at.false)) expects.w_bound good goes)
 
 pub returns-then-not-good_at : goal.returns-then-not-good_at
 returns-then-not-good_at c =
     let records = c.args.records.now in
     let loop = c.loop-expected in
-    let bad : good_at records loop.i ≡ false = sym c.good_at.ensures ∙ not-true _ c.if-not-good_at.true-raw in (
-      follow_ends loop.invariant (λ h. not_followed _ _ _ (not_good records loop.i h bad)),
-      (loop.invariant.kept.well, (λ g. absurd (true≢false (sym g ∙ bad)), loop.invariant.again)),
-    )
+    let bad : good_at records loop.i ≡ false = sym c.good_at.ensures ∙ c.if-not-good_at.true in 
+    record {
+      words_after = follow_ends loop.invariant (λ h. not_followed _ _ _ (not_good records loop.i h bad));
+      state_value = loop.invariant.kept.well;
+      expected_value = λ g. absurd (true≢false (sym g ∙ bad));
+      again = loop.invariant.again;
+    }
 
 pub returns-then-stops : goal.returns-then-stops
 returns-then-stops c =
@@ -102,16 +105,13 @@ returns-then-stops c =
     let t = loop.t in
     let w = get_or records loop.i 0 in
     let expects = c.expects-expected.ensures in
-    let found : good_at records loop.i ≡ true = sym c.good_at.ensures ∙ not-false _ c.if-not-good_at.false-raw in
+    let found : good_at records loop.i ≡ true = sym c.good_at.ensures ∙ c.if-not-good_at.false in
     let good = good_there records loop.i found in
     let stays : follows args.compare t w ≡ false =
-    is_followed args.compare t w expects.1 good (c.stops.ensures ∙ ap (λ (v : ℕ). args.compare && not (eqb v w)) expects.0) ∙ ap not c.if-stops.true in (
-      follow_ends loop.invariant (λ _. stays),
-      (loop.invariant.kept.well, (λ _. ap byte expects.0 ∙ expected-byte t w expects.1 (stopped_differs args.compare t w good stays), loop.invariant.again)),
-    )
-
--- LEFT At-match-branch
-found c = sym c.before.before.before.before.before.before.before.before.before.before.before.good-at.ensures ∙ not-false _ c.before.before.before.before.before.before.before.before.before.before.if1.false
-
--- LEFT At-match-branch
-inside c = good-within _ _ (found c)
+    is_followed args.compare t w expects.w_bound good (c.stops.ensures ∙ ap (λ (v : ℕ). args.compare && not (eqb v w)) expects.value) ∙ ap not c.if-stops.true in 
+    record {
+      words_after = follow_ends loop.invariant (λ _. stays);
+      state_value = loop.invariant.kept.well;
+      expected_value = λ _. ap byte expects.value ∙ expected-byte t w expects.w_bound (stopped_differs args.compare t w good stays);
+      again = loop.invariant.again;
+    }

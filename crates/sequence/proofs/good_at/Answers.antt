@@ -9,4 +9,4 @@ returns-then-records-place c = simp (le-ltb _ _ c.if-records-place.true)
 
 pub returns : goal.returns
 unfolding good_at
-returns c = rw c.good2.ensures (simp (lt-ltb _ _ c.if-records-place.false))
+returns c = rw c.good.ensures (simp (lt-ltb _ _ c.if-records-place.false))
