@@ -15,7 +15,6 @@ use native.Mathlib.Omega.{arith}
 use Rattle.reply.proofs.put_divisor.Goals as goal
 
 -- the error that is handed on
-
 line : (p : Picked) → SFits w32 p.error → word_of p.number 32 ++ (word_of p.divisor 32 ++ signed_word_of (to_z w32 (of_z w32 p.error)) 10) ≡ divisor_line p
 unfolding divisor_line
 line p f = ap (λ (z : ℤ). word_of p.number 32 ++ (word_of p.divisor 32 ++ signed_word_of z 10)) (to_z-of_z w32 p.error f)
