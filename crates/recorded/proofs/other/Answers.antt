@@ -20,4 +20,4 @@ returns-in_default c =
     let r = c.in_default.in_default-own.rest in
     let k = c.kind.ensures in
     let p = c.requires in
-    sym (other_step _ _ p.0 p.1.0 p.1.1 (λ e. r.0.0.0.1 (k ∙ e)) (λ e. r.0.0.1 (k ∙ e)) (λ e. r.0.1 (k ∙ e)) (λ e. r.1 (k ∙ e)))
+    sym (other_step _ _ p.s_value p.fact.0 p.fact.1 (λ e. r.0.0.0.1 (k ∙ e)) (λ e. r.0.0.1 (k ∙ e)) (λ e. r.0.1 (k ∙ e)) (λ e. r.1 (k ∙ e)))
