@@ -3,3 +3,4 @@ pub mod Ticked
 pub mod Event
 pub mod Pulsed
 pub mod Going
+pub mod Quieted

@@ -1,15 +1,37 @@
 // The clock: between two pulses k alone falls. `advance` finds by one division the pulses that n ticks
-// bring, and k after them; `pulse` makes the pulses, the quiet ones at once.
+// bring, and k after them; `pulse` makes the pulses, the quiet ones at once, or a single one. `quiet` has
+// the single quiet pulse, in which no byte is loaded and no character ends: numbers alone.
 #![tactic(auto)]
 
 pub mod pulse;
+pub mod quiet;
 
 ghost use Rattle.std.specs.Prelude.{◌≡◌, true};
 ghost use Rattle.device.specs.State.{with_k};
 ghost use Rattle.device.specs.Calls.{ticks_of};
 ghost use Rattle.device.specs.Ranges.{well_formed};
 
-use device::State;
+use device::{Frame, Latches, Receiver, State};
+
+// What a pulse looks at and does not change, while the queues stay as they are.
+#[derive(Clone, Copy)]
+pub struct Setting {
+    pub lcr: u8,
+    pub sin: u8,
+    pub loopback: bool,
+    pub ready: bool,
+    pub counts: bool,
+    pub limit: u32,
+}
+
+// What a quiet pulse leaves, or the parts as they were where the pulse is not quiet.
+#[derive(Clone, Copy)]
+pub struct QuietPulse {
+    pub quiet: bool,
+    pub frame: Frame,
+    pub receiver: Receiver,
+    pub latches: Latches,
+}
 
 // The state with so many ticks to the next pulse.
 fn with_k(s: State, k: u32) -> State

@@ -1,8 +1,11 @@
-// The pulses.
+// The pulses, and a single one.
 ghost use Rattle.std.specs.Prelude.{◌≡◌, true};
 ghost use Rattle.device.specs.State.{with_k};
+ghost use Rattle.device.specs.Autoflow.{settled};
+ghost use Rattle.device.specs.Tick.{pulsed};
 ghost use Rattle.device.specs.Ranges.{well_formed};
 ghost use Rattle.quiet_pulses.specs.Quiet.{pulses_of};
+ghost use Rattle.clock.specs.Needs.{Pulsing};
 
 use device::State;
 use line::{idle, transmitter};
@@ -59,4 +62,16 @@ pub fn pulses(s: State, k: u32, n: u32) -> State
         left -= 1;
     }
     t
+}
+
+// One pulse: transmitter, receiver, idle count, and the rules that end a step.
+pub fn pulse(s: State) -> State
+    requires { Pulsing s }
+    ensures { result ≡ settled (pulsed s) }
+{
+    let t = transmitter::transmit(s);
+    let r = receiver::hear(t);
+    let entered = receiver::enters(t, r.ended);
+    let u = receiver::accept(t, r);
+    autoflow::settle(idle::idle(entered, u))
 }

@@ -1,9 +1,9 @@
 // The idle count's part of a pulse.
 ghost use Rattle.std.specs.Prelude.{◌≡◌, cond, ◌≤◌, ◌+◌, min, ltb};
 ghost use Rattle.device.specs.State.{with_idle};
-ghost use Rattle.device.specs.Idle.{counts as «Counts-of», time_out_at, counted as «Counted-of»};
+ghost use Rattle.device.specs.Idle.{counts as «Counts-of», time_out_at, counted as «Counted-of», idled};
 
-use device::{FifoControl, Latches};
+use device::{FifoControl, Latches, State};
 use sheet::limits;
 
 // The idle count that times out: four frames in the format of LCR.
@@ -62,4 +62,14 @@ pub fn later(f: FifoControl, received: u32, lcr: u8, entered: bool, l: Latches) 
         return next;
     }
     counted(limit(lcr), l)
+}
+
+// The idle count's part of a pulse, in which a character entered the queue or not.
+pub fn idle(entered: bool, s: State) -> State
+    requires { s.latches.idle ≤ 769 }
+    ensures { result ≡ idled entered s }
+{
+    let mut next = s;
+    next.latches = later(s.fifo, s.rx.count, s.registers.lcr, entered, s.latches);
+    next
 }

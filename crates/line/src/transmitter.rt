@@ -1,11 +1,11 @@
 // The transmitter's part of a pulse.
-ghost use Rattle.std.specs.Prelude.{◌≡◌, cond, not, ◌&&◌, eqb, get_or};
+ghost use Rattle.std.specs.Prelude.{◌≡◌, cond, not, ◌&&◌, ◌<◌, eqb, get_or};
 ghost use Rattle.frame.specs.Format.{format_of};
 ghost use Rattle.device.specs.State.{no_frame, with_empty};
 ghost use Rattle.device.specs.Autoflow.{held};
-ghost use Rattle.device.specs.Transmitter.{frame_of, shifted_out};
+ghost use Rattle.device.specs.Transmitter.{frame_of, shifted_out, loaded, transmitted};
 
-use device::{FifoControl, Frame, Inputs, Latches, Registers};
+use device::{FifoControl, Frame, Inputs, Latches, Registers, State};
 use queue::ByteQueue;
 use settings::autoflow;
 use sheet::limits;
@@ -63,5 +63,36 @@ pub fn emptied(count: u32, l: Latches) -> Latches
     if count == 1 {
         next.empty = 1;
     }
+    next
+}
+
+// The oldest byte goes into the shift register, in the format of LCR. Emptying the queue sets the
+// transmit-empty latch.
+fn load(s: State) -> State
+    requires { 0 < s.tx.count }
+    ensures { result ≡ loaded s }
+{
+    let q = s.tx;
+    let mut next = s;
+    next.frame = next_frame(q, s.registers.lcr);
+    next.latches = emptied(q.count, s.latches);
+    next.tx = queue::bytes::take(q);
+    next
+}
+
+// The transmitter's part of a pulse: L falls by 1, and at 0 the next byte is loaded, where one is
+// queued and the transmitter is not held.
+pub fn transmit(s: State) -> State
+    ensures { result ≡ transmitted s }
+{
+    let r = s.registers;
+    let f = s.fifo;
+    let i = s.inputs;
+    let x = shift_out(s.frame);
+    if flag::both(x.left == 0, ready(s.tx.count, r, f, i)) {
+        return load(s);
+    }
+    let mut next = s;
+    next.frame = x;
     next
 }

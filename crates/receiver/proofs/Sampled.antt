@@ -250,21 +250,6 @@ sampled_next w q i h lcr v c two l e low =
 
 -- What the code does where a sample is taken.
 
--- the samples taken before, a, and after, k
-pub record Taken (a k : ℕ) : Type 0 where
-  pub order : a ≤ k
-  pub few : a < 32
-  pub pulses : 16 * a < 2 ^ 32
-
-pub taken_of : (q m a k : ℕ) (v : Receiver) → Sampled q m v → a ≡ samples_taken v.position → k ≡ samples_taken (v.position + m) → Taken a k
-taken_of q m a k v s ea ek =
-    let most : a ≤ 9 = omega (arith, s.before) in
-    record { order = omega arith; few = omega arith; pulses = omega arith }
-
--- 16 pulses for each sample fit a word, with a place
-pub pulses_fit : (x a : ℕ) → x ≤ 500 → a < 32 → x + 16 * a < 2 ^ 32
-pulses_fit x a place few = omega arith
-
 -- where a sample is taken, the parity was not sampled before
 start_few : (q m : ℕ) (v : Receiver) → Sampled q m v → samples_taken v.position < samples_taken (v.position + m) → samples_taken v.position ≤ data_bits v.format
 start_few q m v s more = omega (arith, s.before)

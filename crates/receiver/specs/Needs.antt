@@ -2,6 +2,7 @@
 use Rattle.std.specs.Prelude.{ℕ, ◌+◌, ◌-◌, ◌≤◌, ◌<◌, ◌^◌, min}
 use Rattle.frame.specs.Format.{data_bits, parity_bits}
 use Rattle.device.specs.declared.Receiver.{Receiver}
+use Rattle.device.specs.declared.State.{State}
 use Rattle.device.specs.Receiver.{stop_position, samples_taken}
 
 -- a position fits, and the samples fill the places taken so far
@@ -13,6 +14,11 @@ pub record Placed (v : Receiver) : Type 0 where
 pub record Sampling (h : ℕ) (v : Receiver) : Type 0 where
   pub level : h ≤ 1
   pub placed : Placed v
+
+-- the state as the receiver's part of a pulse finds it
+pub record Hearing (s : State) : Type 0 where
+  pub sin : s.inputs.sin ≤ 1
+  pub placed : Placed s.receiver
 
 -- in a character: a position before its stop sample, and samples and parity not yet taken are zero
 pub record InCharacter (v : Receiver) : Type 0 where

@@ -3,17 +3,17 @@
 
 pub mod samples;
 
-ghost use Rattle.std.specs.Prelude.{◌≡◌, cond, ◌≤◌};
+ghost use Rattle.std.specs.Prelude.{◌≡◌, cond, not, ◌&&◌, ◌≤◌};
 ghost use Rattle.queue.specs.Queue.{is_full};
 ghost use Rattle.device.specs.State.{with_overrun};
 ghost use Rattle.device.specs.Fifo.{capacity};
 ghost use Rattle.device.specs.Transmitter.{line};
-ghost use Rattle.device.specs.Receiver.{goes_on, start_at, is_break, entry_of, stop_sample, sampled, at_position, in_character, receiver_pulse};
-ghost use Rattle.receiver.specs.Needs.{Sampling};
+ghost use Rattle.device.specs.Receiver.{goes_on, start_at, is_break, entry_of, stop_sample, sampled, at_position, in_character, receiver_pulse, receiver_pulse_of, with_entry, with_received};
+ghost use Rattle.receiver.specs.Needs.{Sampling, Hearing};
 
-use device::{CHARACTER, FifoControl, Frame, IDLE, Latches, Received, Receiver, WAITING};
+use device::{CHARACTER, FifoControl, Frame, IDLE, Latches, Received, Receiver, State, WAITING};
 use queue::Entry;
-use settings::{errors, fifo, sampling};
+use settings::{errors, fifo, modem, sampling};
 use sheet::limits;
 
 // The receiver in no character: idle, or waiting for mark.
@@ -119,7 +119,7 @@ fn sample(level: u8, v: Receiver) -> Receiver
 }
 
 // The character at a position.
-fn at_position(position: u32, v: Receiver) -> Receiver
+pub fn at_position(position: u32, v: Receiver) -> Receiver
     ensures { result ≡ at_position position v }
 {
     let mut next = v;
@@ -187,11 +187,28 @@ pub fn listen(loopback: bool, x: Frame, sin: u8, lcr: u8, v: Receiver) -> Receiv
     receive(level, lcr, v)
 }
 
+// What this pulse makes of the receiver.
+pub fn hear(s: State) -> Received
+    requires { Hearing s }
+    ensures { result ≡ receiver_pulse_of s }
+{
+    let r = s.registers;
+    listen(modem::loopback(r), s.frame, s.inputs.sin, r.lcr, s.receiver)
+}
+
 // Whether a queue with `count` entries is full.
 pub fn is_full(f: FifoControl, count: u32) -> bool
     ensures { result ≡ is_full (capacity f) count }
 {
     fifo::capacity(f) <= count
+}
+
+// Whether a character enters the queue in this pulse, where one ended or not.
+pub fn enters(s: State, ended: bool) -> bool
+    ensures { result ≡ (ended && not (is_full (capacity s.fifo) s.rx.count)) }
+{
+    let f = s.fifo;
+    flag::both(ended, !is_full(f, s.rx.count))
 }
 
 // The latches after a character is put into a queue that was full or not: a full one sets OE.
@@ -201,5 +218,30 @@ pub fn overrun(full: bool, l: Latches) -> Latches
     let before = l.overrun;
     let mut next = l;
     next.overrun = errors::set_if(full, before);
+    next
+}
+
+// An entry is put into the queue, in character mode its errors apart. A full queue sets OE.
+fn enter(s: State, e: Entry) -> State
+    ensures { result ≡ with_entry s e }
+{
+    let f = s.fifo;
+    let q = s.rx;
+    let mut next = s;
+    next.rx = queue::entries::put(q, fifo::capacity(f), errors::entering(f, e));
+    next.latches = overrun(is_full(f, q.count), s.latches);
+    next.kept = errors::kept_after(f, e, s.kept);
+    next
+}
+
+// The state with what a pulse made of the receiver, and the entry of a character that ended.
+pub fn accept(s: State, r: Received) -> State
+    ensures { result ≡ with_received s r }
+{
+    let mut next = s;
+    next.receiver = r.receiver;
+    if r.ended {
+        return enter(next, r.entry);
+    }
     next
 }

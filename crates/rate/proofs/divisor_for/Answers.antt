@@ -4,7 +4,6 @@ use mathlib.Core.Bool.{true, false}
 use mir.Syntax.{w32}
 use mir.ValLaws.{to_z-of_z}
 use native.Mathlib.Omega.{arith}
-use borrow.Author.Tests.{not-true, not-false}
 use Rattle.rate.specs.Rate.{divisor_of, divisor_for, within}
 use Rattle.rate.proofs.Search.{found, only_one, inside}
 use Rattle.rate.proofs.divisor_for.Goals as goal
