@@ -2,6 +2,7 @@
 use Rattle.device.specs.Forecast.{forecast_number, forecast_of}
 use Rattle.forecast.proofs.Asked.{forecast_well, forecast_most}
 use Rattle.forecast.proofs.Foretold.{foretold}
+use Rattle.invariant.proofs.Settled.{Kept}
 use Rattle.queue.proofs.Laws.{length_mapped}
 use mathlib.Core.Path.{◌≡◌, sym, ◌∙◌}
 use borrow.Author.Tests.{eq-eqb, ne_eqb}
@@ -24,11 +25,9 @@ ticks_to_come-requires c = sym c.refused-why.ensures.number_value ∙ c.if-numbe
 pub returns : goal.returns
 unfolding forecast_of
 returns c =
-    
     let none = sym c.refused-why.ensures.number_value ∙ c.if-number-ne-DONE.false in
     let told = c.forecasted-2.ensures in
     let ticks = c.ticks_to_come.ensures in
-    record { outcome = rw (told, ticks) (simp (eq-eqb _ _ none)); every_tick = (λ _ t. rw (told, ticks) (foretold _ (kept s none) none t)); at_most = rw (told, ticks) (forecast_most c.args.s none) }
-
--- LEFT Start
-kept c e = record { well = forecast_well c.args.s e; places = record { bytes_long = search rules; entries_long = search (length_mapped, c.well-formed.0.1.1.1.1.1.1.1.1.0, rules) } }
+    let kept : Kept c.args.s =
+    record { well = forecast_well c.args.s none; places = record { bytes_long = search rules; entries_long = search (length_mapped, c.well_formed, rules) } } in
+    record { outcome = rw (told, ticks) (simp (eq-eqb _ _ none)); every_tick = (λ _ t. rw (told, ticks) (foretold _ kept none t)); at_most = rw (told, ticks) (forecast_most c.args.s none) }

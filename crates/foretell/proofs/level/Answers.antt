@@ -22,4 +22,4 @@ returns c =
     let none = sym c.refused-why.ensures.number_value ∙ c.if-number-ne-DONE.false in
     let told = c.leveled-2.ensures in
     let after = c.level_after.ensures in
-    record { outcome = rw (told, after.0) (simp (eq-eqb _ _ none)); ticked = λ _. rw told after.1 }
+    record { outcome = rw (told, after.foretold) (simp (eq-eqb _ _ none)); ticked = λ _. rw told after.ticked }

@@ -1,9 +1,9 @@
 -- The two rows of the table: 1, or the ticks used, which stop in time.
 use Rattle.device.specs.Forecast.{run_of}
 use Rattle.forecast.proofs.Foretold.{stops_in_time}
+use Rattle.invariant.proofs.Settled.{Kept}
 use Rattle.queue.proofs.Laws.{length_mapped}
 use mathlib.Core.Path.{◌∙◌}
-use mathlib.Core.Bool.{true}
 use native.Mathlib.Omega.{arith}
 use borrow.Author.Tests.{eq-eqb, ne_eqb}
 use borrow.Author.Rules.{rules}
@@ -23,7 +23,6 @@ pub returns : goal.returns
 unfolding run_of
 returns c =
     let w = c.part_of-part.ensures.none ∙ eq-eqb _ _ c.if-part-ne-NONE.false in
-    record { outcome = rw (c.advance.ensures, c.used-used.ensures) (simp w); in_time = λ _. rw c.used-used.ensures (stops_in_time _ (kept c w) _) }
-
--- LEFT Start
-kept c e = record { well = e; places = record { bytes_long = search rules; entries_long = search (length_mapped, c.well-formed.0.1.1.1.1.1.1.1.1.0, rules) } }
+    let kept : Kept c.args.s =
+    record { well = w; places = record { bytes_long = search rules; entries_long = search (length_mapped, c.well_formed, rules) } } in
+    record { outcome = rw (c.advance.ensures, c.used-used.ensures) (simp w); in_time = λ _. rw c.used-used.ensures (stops_in_time _ kept _) }

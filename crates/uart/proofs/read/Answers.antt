@@ -10,7 +10,7 @@ use Rattle.uart.proofs.Laws.{taken, some_taken}
 use Rattle.step.proofs.Laws.{readable, read_stays}
 use mathlib.Core.Path.{◌≡◌, sym, ap, ◌∙◌}
 use mathlib.Core.Bool.{true}
-use borrow.Author.Tests.{eq-eqb, ne_eqb, not-true, not-false}
+use borrow.Author.Tests.{eq-eqb, ne_eqb}
 use Rattle.uart.proofs.read.Goals as goal
 
 pub returns-then-part-ne-NONE : goal.returns-then-part-ne-NONE
@@ -19,7 +19,7 @@ returns-then-part-ne-NONE c = rw (c.refused.ensures, c.part_of-part.ensures.lowe
 
 pub returns-then-not-is_register : goal.returns-then-not-is_register
 unfolding read_of
-returns-then-not-is_register c = rw c.refused-then-not-is_register.ensures (simp (c.part_of-part.ensures.none ∙ eq-eqb _ _ c.if-part-ne-NONE.false, sym c.is_register.ensures ∙ not-true _ c.if-not-is_register.true-raw))
+returns-then-not-is_register c = rw c.refused-then-not-is_register.ensures (simp (c.part_of-part.ensures.none ∙ eq-eqb _ _ c.if-part-ne-NONE.false, sym c.is_register.ensures ∙ c.if-not-is_register.true))
 
 pub value-byte-requires : goal.value-byte-requires
 value-byte-requires c = readable _ (c.part_of-part.ensures.none ∙ eq-eqb _ _ c.if-part-ne-NONE.false)
@@ -30,8 +30,8 @@ returns-then-not-read_changes c =
     let s = c.args.s in
     let a = c.args.address in
     let well : well_formed s ≡ true = c.part_of-part.ensures.none ∙ eq-eqb _ _ c.if-part-ne-NONE.false in
-    let same : settled (read_register s a).state ≡ s = read_stays s a well (c.read_changes.ensures (not-true _ c.if-not-read_changes.true-raw)) in
-    rw (c.answered.ensures, c.outputs.ensures, c.value-byte.ensures, same) (simp (well, sym c.is_register.ensures ∙ not-false _ c.if-not-is_register.false-raw, same))
+    let same : settled (read_register s a).state ≡ s = read_stays s a well (c.read_changes.ensures c.if-not-read_changes.true) in
+    rw (c.answered.ensures, c.outputs.ensures, c.value-byte.ensures, same) (simp (well, sym c.is_register.ensures ∙ c.if-not-is_register.false, same))
 
 pub take-r-requires : goal.take-r-requires
 take-r-requires c = some_taken c.args.s c.args.address (sym c.takes.ensures ∙ c.if-takes.true)
@@ -43,8 +43,8 @@ returns-then-takes c =
     let a = c.args.address in
     let all : with_latches (with_rx s (settled (rbr_read s).state).rx) (settled (rbr_read s).state).latches ≡ settled (read_register s a).state = taken s a (sym c.takes.ensures ∙ c.if-takes.true) in
     rw (c.answered-then-takes.ensures, c.outputs-then-takes.ensures, c.take-r.ensures, c.value-byte.ensures)
-    (ap (λ (t : State). record { number = 0; part = 0; byte = (read_register s a).byte; outputs = outputs t; state = t }) all ∙ simp (c.part_of-part.ensures.none ∙ eq-eqb _ _ c.if-part-ne-NONE.false, sym c.is_register.ensures ∙ not-false _ c.if-not-is_register.false-raw))
+    (ap (λ (t : State). record { number = 0; part = 0; byte = (read_register s a).byte; outputs = outputs t; state = t }) all ∙ simp (c.part_of-part.ensures.none ∙ eq-eqb _ _ c.if-part-ne-NONE.false, sym c.is_register.ensures ∙ c.if-not-is_register.false))
 
 pub returns : goal.returns
 unfolding read_of done
-returns c = rw (c.answered-2.ensures, c.outputs-2.ensures, c.after_read-after.ensures, c.value-byte.ensures) (simp (c.part_of-part.ensures.none ∙ eq-eqb _ _ c.if-part-ne-NONE.false, sym c.is_register.ensures ∙ not-false _ c.if-not-is_register.false-raw))
+returns c = rw (c.answered-2.ensures, c.outputs-2.ensures, c.after_read-after.ensures, c.value-byte.ensures) (simp (c.part_of-part.ensures.none ∙ eq-eqb _ _ c.if-part-ne-NONE.false, sym c.is_register.ensures ∙ c.if-not-is_register.false))

@@ -20,7 +20,7 @@ unfolding ticks_answer
 returns-then-n-s c =
     let well = c.part_of-part.ensures.none ∙ eq-eqb _ _ c.if-part-ne-NONE.false in
     rw (c.answered.ensures, c.outputs.ensures)
-    (ap answered (counts_down _ _ (record { well = well; places = start-places c }) c.if-n-s.true) ∙ simp well)
+    (ap answered (counts_down _ _ (record { well = well; places = record { bytes_long = search rules; entries_long = search (length_mapped, c.well_formed, rules) } }) c.if-n-s.true) ∙ simp well)
 
 pub advance-later-requires : goal.advance-later-requires
 advance-later-requires c = c.part_of-part.ensures.none ∙ eq-eqb _ _ c.if-part-ne-NONE.false
@@ -28,6 +28,3 @@ advance-later-requires c = c.part_of-part.ensures.none ∙ eq-eqb _ _ c.if-part-
 pub returns : goal.returns
 unfolding ticks_answer
 returns c = rw (c.answered-2.ensures, c.outputs-2.ensures, c.advance-later.ensures) (simp (c.part_of-part.ensures.none ∙ eq-eqb _ _ c.if-part-ne-NONE.false))
-
--- LEFT Start
-start-places c = record { bytes_long = search rules; entries_long = search (length_mapped, c.well-formed.0.1.1.1.1.1.1.1.1.0, rules) }
