@@ -2,7 +2,7 @@
 // ends. Until then only L, P with its samples and the idle count change, and any number of pulses is
 // made at once: `shift_by`, `hear_by`, `later_by`.
 //
-// `reach` counts them. That m of them are m pulses of `Tick.antt` is the law `quiet-pulses`.
+// `reach` counts them. That m of them are m pulses of `Tick.antt` is the law `quiet_pulses`.
 #![tactic(auto)]
 
 ghost use Rattle.std.specs.Prelude.{◌≡◌, ◌+◌, ◌≤◌, min};
