@@ -8,7 +8,6 @@ use Rattle.pieces.proofs.finish.Goals as goal
 
 pub returns : goal.returns
 returns c =
-    
     let bytes = c.args.bytes.now in
     let n = length bytes - 4 * (length bytes / 4) in
     let whole : length bytes ≤ 4 * (length bytes / 4) + n = omega arith in
