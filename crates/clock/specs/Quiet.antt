@@ -1,4 +1,4 @@
--- The quiet pulse: no byte is loaded and no character ends. It changes numbers alone, so that the loop over ticks
+-- The quiet pulse: no byte is loaded and no character ends. It changes numbers alone, and
 -- leaves the queues where they are. What these definitions say of a pulse is proved against `Tick.antt`.
 use Rattle.std.specs.Prelude.{ℕ, ◌+◌, ◌%◌, Bool, true, false, cond, not, ◌&&◌, eqb}
 use Rattle.device.specs.declared.Frame.{Frame}

@@ -76,20 +76,36 @@ writes_agree s t ys n e =
 
 abbrev Promised : ℕ → State → List ℕ → List ℕ → Expected → List ℕ → Type 0
 Promised version s ws xs r ys =
-    (record { answer = r; words = ys } ≡ expect_of version s ws xs)
-    × (((r.number ≡ 1 → ⊥) → (r.number ≡ 7 → ⊥) → replay_of version s (take r.count ys) ≡ agreed r.state)
-    × ((well_formed s ≡ true → well_formed r.state ≡ true) × ((r.count ≤ length ys) × (r.count ≡ length (take r.count ys)))))
+    record {
+      outcome : record { answer = r; words = ys } ≡ expect_of version s ws xs;
+      replayed : (r.number ≡ 1 → ⊥) → (r.number ≡ 7 → ⊥) → replay_of version s (take r.count ys) ≡ agreed r.state;
+      well : well_formed s ≡ true → well_formed r.state ≡ true;
+      count_in_bounds : r.count ≤ length ys;
+      count_value : r.count ≡ length (take r.count ys);
+    }
 
 -- of a refusal before the first record
 pub refusal_keeps : (version : ℕ) (s : State) (ws xs : List ℕ) (number part : ℕ) (r : Expected) → r ≡ record { number = number; part = part; count = 0; state = s } →
     expect_of version s ws xs ≡ stopping number part s xs → (number ≡ 1) ⊎ (number ≡ 7) → Promised version s ws xs r xs
 refusal_keeps version s ws xs number part r e d k =
     rw e
-    (sym d, (λ p q. absurd (⊎_elim p q k), (λ h. h, (omega arith, refl))))
+    record {
+      outcome = sym d;
+      replayed = λ p q. absurd (⊎_elim p q k);
+      well = λ h. h;
+      count_in_bounds = omega arith;
+      count_value = refl;
+    }
 
 -- of the records
 pub records_keep : (version : ℕ) (s : State) (ws xs : List ℕ) (r : Expected) (ys : List ℕ) → well_formed s ≡ true → known version ≡ true → record { answer = r; words = ys } ≡ expect_from s ws xs →
     replay_from 0 s (take r.count ys) ≡ agreed r.state → well_formed r.state ≡ true → r.count ≤ length ys → Promised version s ws xs r ys
 unfolding expect_of replay_of
 records_keep version s ws xs r ys f v e a w h =
-    (simp (f, v) e, (λ p q. simp (f, v) a, (λ _. w, (h, sym (length-take-le r.count ys h)))))
+    record {
+      outcome = simp (f, v) e;
+      replayed = λ p q. simp (f, v) a;
+      well = λ _. w;
+      count_in_bounds = h;
+      count_value = sym (length-take-le r.count ys h);
+    }

@@ -26,18 +26,26 @@ pieces_none p bytes z = record { going = z; most = omega arith; whole = refl; lo
 -- A part that was written anew, up to a record that is refused, as the contract of `go_on` has it.
 abbrev pub Went : Progress → List ℕ → Progress → List ℕ → Type 0
 Went p bytes₀ t bytes =
-    ((rest : List ℕ) → after (take (4 * t.count) bytes) (rest_of t (left bytes₀ ++ rest)) ≡ rest_of p (bytes₀ ++ rest))
-    × ((drop (4 * t.count) bytes ≡ drop (4 * t.count) bytes₀)
-    × ((4 * t.count ≤ length bytes) × ((4 * t.count ≡ length (take (4 * t.count) bytes)) × (t.number ≡ 0 → Ready t))))
+    record {
+      by_index : (rest : List ℕ) → after (take (4 * t.count) bytes) (rest_of t (left bytes₀ ++ rest)) ≡ rest_of p (bytes₀ ++ rest);
+      bytes_unchanged : drop (4 * t.count) bytes ≡ drop (4 * t.count) bytes₀;
+      count_in_bounds : 4 * t.count ≤ length bytes;
+      count_value : 4 * t.count ≡ length (take (4 * t.count) bytes);
+      ready : t.number ≡ 0 → Ready t;
+    }
 
 -- after a refusal nothing is written
 pub went_nowhere : (p t : Progress) (bytes : List ℕ) → t ≡ record { number = p.number; part = p.part; version = p.version; count = 0; state = p.state } →
     (p.number ≡ 0 → ⊥) → Went p bytes t bytes
 went_nowhere p t bytes e n =
-    subst (λ (x : Progress). Went p bytes x bytes) (sym e) (
-      λ rest. rest-none _ _ (ne_eqb _ _ n) ∙ sym (rest-none p (bytes ++ rest) (ne_eqb _ _ n)),
-      (refl, (omega arith, (refl, λ z. absurd (n z)))),
-    )
+    subst (λ (x : Progress). Went p bytes x bytes) (sym e)
+    (record {
+      by_index = λ rest. rest-none _ _ (ne_eqb _ _ n) ∙ sym (rest-none p (bytes ++ rest) (ne_eqb _ _ n));
+      bytes_unchanged = refl;
+      count_in_bounds = omega arith;
+      count_value = refl;
+      ready = λ z. absurd (n z);
+    })
 
 -- The next n bytes: what a piece was, and what was put in its place.
 module _ {p q : Progress} {bytes₀ bytes : List ℕ} {at : ℕ} (b : Pieces p bytes₀ q bytes at) (n : ℕ) (r : Progress) (part : List ℕ)
@@ -139,10 +147,14 @@ module _ {p q : Progress} {bytes₀ bytes : List ℕ} {at : ℕ} (b : Pieces p b
 
   went : (t : Progress) → t ≡ all-counted → ((rest : List ℕ) → rest_of r (left bytes₀ ++ rest) ≡ rest_of r (left piece ++ (drop (at + n) bytes₀ ++ rest))) → (r.number ≡ 0 → Ready r) → Went p bytes₀ t put
   went t e same ready =
-      subst (λ (x : Progress). Went p bytes₀ x put) (sym e) (
-        λ rest. ap (after (take end put)) (count_apart (left bytes₀ ++ rest) ∙ same rest) ∙ on rest,
-        (behind, (end_within, (end_written, λ z. record { none_bad = (ready z).none_bad; well = (ready z).well; known-version = (ready z).known-version }))),
-      )
+      subst (λ (x : Progress). Went p bytes₀ x put) (sym e)
+      (record {
+        by_index = λ rest. ap (after (take end put)) (count_apart (left bytes₀ ++ rest) ∙ same rest) ∙ on rest;
+        bytes_unchanged = behind;
+        count_in_bounds = end_within;
+        count_value = end_written;
+        ready = λ z. record { none_bad = (ready z).none_bad; well = (ready z).well; known-version = (ready z).known-version };
+      })
 
   -- a record is refused
   pub piece_stops : (t : Progress) → t ≡ all-counted → (r.number ≡ 0 → ⊥) → Went p bytes₀ t put
@@ -169,7 +181,7 @@ module _ (p q : Progress) (bytes₀ bytes : List ℕ) (w : Went p bytes₀ q byt
 
   ends : (m : Made) → rest_of q (left bytes₀) ≡ m → after made-last m ≡ rest_of p bytes₀
   ends m e =
-      ap (after made-last) (sym e ∙ ap (rest_of q) (sym (append-nil (left bytes₀)))) ∙ w.0 [] ∙ ap (rest_of p) (append-nil bytes₀)
+      ap (after made-last) (sym e ∙ ap (rest_of q) (sym (append-nil (left bytes₀)))) ∙ w.by_index [] ∙ ap (rest_of p) (append-nil bytes₀)
 
   pub end_refused : (q.number ≡ 0 → ⊥) → made_by q made-last ≡ rest_of p bytes₀
   end_refused n = ap (made_by q) (sym (append-nil made-last)) ∙ ends (made_by q []) (rest-none q (left bytes₀) (ne_eqb _ _ n))
@@ -180,7 +192,7 @@ module _ (p q : Progress) (bytes₀ bytes : List ℕ) (w : Went p bytes₀ q byt
 
     pub end_none : length bytes₀ % 4 ≡ 0 → made_by q made-last ≡ rest_of p bytes₀
     end_none e =
-        let r = w.1.1.1.1 z in
+        let r = w.ready z in
         ap₂ (λ (number part : ℕ). record { number = number; part = part; state = q.state; bytes = made-last }) z r.none_bad
         ∙ ap (ending 0) (sym (append-nil made-last))
         ∙ ends (ending 0 []) (last_none q z r (left bytes₀) (length_left bytes₀ ∙ e))
@@ -189,4 +201,4 @@ module _ (p q : Progress) (bytes₀ bytes : List ℕ) (w : Went p bytes₀ q byt
     end_left n =
         let some : 0 < length (left bytes₀) = omega (arith, n, length_left bytes₀) in
         let few : length (left bytes₀) < 4 = omega (arith, length_left bytes₀) in
-        ap (ending 8) (sym (append-nil made-last)) ∙ ends (ending 8 []) (last_left q z (w.1.1.1.1 z) (left bytes₀) some few)
+        ap (ending 8) (sym (append-nil made-last)) ∙ ends (ending 8 []) (last_left q z (w.ready z) (left bytes₀) some few)

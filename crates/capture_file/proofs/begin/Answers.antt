@@ -32,6 +32,10 @@ pub returns : goal.returns
 returns c =
     let first = c.args.first.now in
     let head = c.header_of-h in
-    let good : head.result.number ≡ 0 = omega (arith, c.if-number-ne-DONE.false) in record { rest_value = λ h rest.
+    let good : head.result.number ≡ 0 = omega (arith, c.if-number-ne-DONE.false) in record {
+      rest_value = λ h rest.
           rw c.fresh.ensures
-          (rest_records (record { version = head.result.version; place = 0; replayed = agreed fresh_of }) (drop 8 first ++ rest) refl ∙ onward-none (records_of head.result.version fresh_of (drop 8 first ++ rest)) ∙ sym (headed_file first rest head.result head.ensures h good)); result_value = λ h. absurd (omega (arith, good, ap (λ (h : Header). h.number) (head.ensures ∙ header_short first h))); place_value = refl }
+          (rest_records (record { version = head.result.version; place = 0; replayed = agreed fresh_of }) (drop 8 first ++ rest) refl ∙ onward-none (records_of head.result.version fresh_of (drop 8 first ++ rest)) ∙ sym (headed_file first rest head.result head.ensures h good));
+      result_value = λ h. absurd (omega (arith, good, ap (λ (h : Header). h.number) (head.ensures ∙ header_short first h)));
+      place_value = refl;
+    }

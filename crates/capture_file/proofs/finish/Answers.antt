@@ -18,7 +18,6 @@ nothing (x ∷ xs) e = absurd (omega arith)
 
 pub returns-then-not-agreeing : goal.returns-then-not-agreeing
 returns-then-not-agreeing c =
-    
     let p = c.args.p in
     let bytes = c.args.bytes.now in
     let q = c.go_on-q.result in
@@ -29,7 +28,6 @@ returns-then-not-agreeing c =
 
 pub returns-then-bytes-eq0 : goal.returns-then-bytes-eq0
 returns-then-bytes-eq0 c =
-    
     let p = c.args.p in
     let bytes = c.args.bytes.now in
     let q = c.go_on-q.result in
@@ -42,7 +40,6 @@ returns-then-bytes-eq0 c =
 
 pub returns : goal.returns
 returns c =
-    
     let p = c.args.p in
     let bytes = c.args.bytes.now in
     let q = c.go_on-q.result in

@@ -23,13 +23,11 @@ returns-then-not-agreeing c =
 
 pub onward-requires : goal.onward-requires
 onward-requires c =
-    
     let within : (values_of c.replay-r.result.outcome).place ≤ length (take c.decode-n.result c.decode-n.new.words) = rw c.replay-r.ensures.value (place-within c.args.p.version c.args.p.replayed.state _) in
     omega (arith, within, c.requires.records_bound, c.requires.bytes_len_bound, c.decode-n.ensures.value)
 
 pub returns : goal.returns
 returns c =
-    
     let p = c.args.p in
     let s = p.replayed.state in
     let bytes = c.args.bytes.now in
@@ -42,6 +40,10 @@ returns c =
     in
     let well : agreeing (replay_of p.version s (words_of bytes)).outcome ≡ true → well_formed (replay_of p.version s (words_of bytes)).state ≡ true =
     λ h. sym (ap (λ (r : Replayed). well_formed r.state) same) ∙ (c.replay-r.ensures.agrees (ap (λ (r : Replayed). r.outcome) same ∙ is_agreed _ h)).well
-    in record { by_index = λ rest. rw (all, c.decode-n.ensures.value) (goes_on p.version p.place s bytes well rest ∙ sym (rest_records p (bytes ++ rest) e)); place_bound = omega (arith, c.decode-n.ensures.value); ready = λ h.
-            let k = sym (later-agreeing p.place (replay_of p.version s (words_of bytes)).outcome) ∙ sym (ap (λ (r : Replayed). agreeing r.outcome) all) ∙ h in
-            record { well = ap (λ (r : Replayed). well_formed r.state) all ∙ well k; known-version = agreed-known p.version s (words_of bytes) k } }
+    in record {
+      by_index = λ rest. rw (all, c.decode-n.ensures.value) (goes_on p.version p.place s bytes well rest ∙ sym (rest_records p (bytes ++ rest) e));
+      place_bound = omega (arith, c.decode-n.ensures.value);
+      ready = λ h.
+          let k = sym (later-agreeing p.place (replay_of p.version s (words_of bytes)).outcome) ∙ sym (ap (λ (r : Replayed). agreeing r.outcome) all) ∙ h in
+          record { well = ap (λ (r : Replayed). well_formed r.state) all ∙ well k; known-version = agreed-known p.version s (words_of bytes) k };
+    }

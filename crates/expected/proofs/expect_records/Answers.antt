@@ -13,4 +13,4 @@ returns c =
     let args = c.args in
     let follow = c.follow-stop in
     let m = c.smaller-n in
-    let most = writes_most args.s args.records.now args.words.now m.result _ follow.ensures.words_after m.ensures in record { words_after = expect_writes args.s args.records.now args.words.now m.result _ follow.ensures.words_after m.ensures _ c.number_at.ensures; words_after_2 = writes_agree _ _ _ _ (follow.ensures.again most); state_value = follow.ensures.state_value; count_in_bounds = omega (arith, most, follow.auto.records.1.0) }
+    let most = writes_most args.s args.records.now args.words.now m.result _ follow.ensures.words_after m.ensures in record { words_after = expect_writes args.s args.records.now args.words.now m.result _ follow.ensures.words_after m.ensures _ c.number_at.ensures; words_after_2 = writes_agree _ _ _ _ (follow.ensures.again most); state_value = follow.ensures.state_value; count_in_bounds = omega (arith, most, follow.auto.words) }

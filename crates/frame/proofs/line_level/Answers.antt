@@ -14,7 +14,6 @@ returns-then-left-eq0 c = (simp (eq-eqb _ _ c.if-left-eq0.true), omega arith)
 
 pub returns : goal.returns
 returns c =
-    
     let a = c.args in
     let levels : ℕ → ℕ = λ n. get_or (frame_levels a.byte a.format) n 1 in
     let place = c.less.ensures ∙ ap (λ (n : ℕ). n - a.left) c.frame_length.ensures.value in

@@ -22,7 +22,6 @@ value-requires c = readable _ c.requires
 
 pub returns : goal.returns
 returns c =
-    
     let read : kind c.args.w ≡ 1 = sym c.kind.ensures ∙ c.if-kind-ne-READ.false in
     let byte : c.value.result ≡ model_byte c.args.s c.args.w =
     c.value.ensures

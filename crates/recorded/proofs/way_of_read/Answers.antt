@@ -12,7 +12,6 @@ returns-then-read_changes c = read_way _ _ c.requires.w_value
 
 pub returns : goal.returns
 returns c =
-    
     let s = c.args.s in
     let same : (read_register s (address c.args.w)).state ≡ s = rw (← c.address.ensures) (c.read_changes.ensures c.if-read_changes.false) in
     nothing_way _ _ (read_step _ _ c.requires.s_value (eqb-true _ _ c.requires.w_value) ∙ read_stays _ _ c.requires.s_value same)

@@ -76,12 +76,12 @@ loop-expected-preserved c =
     let put : c.put.new.words ≡ set loop.words i (expected t w) = c.put.ensures ∙ ap (set loop.words i) expects.value in
     let next : c.match-way.t ≡ (step_of t w).state =
     elim c.match-way.branch [
-      in-0 x ↦ x.t-is ∙ sym (way.nothing x.in-0.is)
-    | in-1 x ↦ x.t-is ∙ ap (λ (n : Numbers). with_latches (with_baud (with_registers t n.registers) n.baud) n.latches) x.numbers-n.ensures ∙ sym (numbers_step t w well (way.numbers x.in-1.is))
-    | in-2 x ↦ x.t-is ∙ ap (λ (n : Queued). with_latches (with_tx t n.tx) n.latches) x.transmit-n.ensures ∙ sym (transmit_step t w well (way.transmit x.in-2.is))
-    | in-3 x ↦ x.t-is ∙ x.after_read-t.ensures
-    | in-4 x ↦ x.t-is ∙ x.ticks-t.ensures
-    | in_default x ↦ x.t-is ∙ x.other-t.ensures
+      | in-0 x ↦ x.t-is ∙ sym (way.nothing x.in-0.is)
+      | in-1 x ↦ x.t-is ∙ ap (λ (n : Numbers). with_latches (with_baud (with_registers t n.registers) n.baud) n.latches) x.numbers-n.ensures ∙ sym (numbers_step t w well (way.numbers x.in-1.is))
+      | in-2 x ↦ x.t-is ∙ ap (λ (n : Queued). with_latches (with_tx t n.tx) n.latches) x.transmit-n.ensures ∙ sym (transmit_step t w well (way.transmit x.in-2.is))
+      | in-3 x ↦ x.t-is ∙ x.after_read-t.ensures
+      | in-4 x ↦ x.t-is ∙ x.ticks-t.ensures
+      | in_default x ↦ x.t-is ∙ x.other-t.ensures
     ] in
     rw (next, put) (follow_turns loop.invariant (good-within _ _ (sym c.good_at.ensures ∙ c.if-not-good_at.false)) expects.w_bound good goes)
 
@@ -89,7 +89,7 @@ pub returns-then-not-good_at : goal.returns-then-not-good_at
 returns-then-not-good_at c =
     let records = c.args.records.now in
     let loop = c.loop-expected in
-    let bad : good_at records loop.i ≡ false = sym c.good_at.ensures ∙ c.if-not-good_at.true in 
+    let bad : good_at records loop.i ≡ false = sym c.good_at.ensures ∙ c.if-not-good_at.true in
     record {
       words_after = follow_ends loop.invariant (λ h. not_followed _ _ _ (not_good records loop.i h bad));
       state_value = loop.invariant.kept.well;
@@ -108,7 +108,7 @@ returns-then-stops c =
     let found : good_at records loop.i ≡ true = sym c.good_at.ensures ∙ c.if-not-good_at.false in
     let good = good_there records loop.i found in
     let stays : follows args.compare t w ≡ false =
-    is_followed args.compare t w expects.w_bound good (c.stops.ensures ∙ ap (λ (v : ℕ). args.compare && not (eqb v w)) expects.value) ∙ ap not c.if-stops.true in 
+    is_followed args.compare t w expects.w_bound good (c.stops.ensures ∙ ap (λ (v : ℕ). args.compare && not (eqb v w)) expects.value) ∙ ap not c.if-stops.true in
     record {
       words_after = follow_ends loop.invariant (λ _. stays);
       state_value = loop.invariant.kept.well;

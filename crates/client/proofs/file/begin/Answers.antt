@@ -25,7 +25,7 @@ returns c =
     either 8 (length bytes)
     (λ h. told_by_rest q (drop 8 bytes ++ []) (subst (λ (x : Replayed). Told x.outcome) (sym (begun.rest_value h [])) (capture_told (bytes ++ []))))
     (λ h. told_by_rest q [] (subst (λ (x : Replayed). Told x.outcome) (sym (begun.result_value h)) (capture_told bytes)))
-    in 
+    in
     record {
       rest_value = λ h rest. same (drop 8 bytes ++ rest) ∙ ap replay_answer (begun.rest_value h rest);
       result_value = λ h. same [] ∙ ap replay_answer (begun.result_value h);

@@ -31,7 +31,6 @@ finish-r-requires c =
 
 pub returns : goal.returns
 returns c =
-    
     let bytes = c.args.bytes.now in
     let n = length bytes - 4 * (length bytes / 4) in
     let whole : length bytes ≤ 4 * (length bytes / 4) + n = omega arith in

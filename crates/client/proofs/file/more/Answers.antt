@@ -29,7 +29,7 @@ returns c =
     let blocks = c.replay_blocks-so_far.ensures in
     let p = c.args.p in
     let begun = c.carried-begun in
-    let q = c.replay_blocks-so_far.result in 
+    let q = c.replay_blocks-so_far.result in
     record {
       rest_value = λ h rest. hands_on p c.handed.result begun.result q _ _ c.handed.ensures begun.ensures (blocks.by_index rest);
       value = λ h. absurd (omega (arith, h, c.if-done-records.false, c.if-done-gt-MOST.false));

@@ -4,7 +4,6 @@ use Rattle.registers.proofs.ier.latches_after.Goals as goal
 
 pub returns-then-raised : goal.returns-then-raised
 returns-then-raised c =
-    
     let raised =
     rw (c.both.ensures, c.has-2.ensures, c.has.ensures) at
     (sym c.both-raised.ensures ∙ c.if-raised.true) in
@@ -12,7 +11,6 @@ returns-then-raised c =
 
 pub returns : goal.returns
 returns c =
-    
     let kept =
     rw (c.both.ensures, c.has-2.ensures, c.has.ensures) at
     (sym c.both-raised.ensures ∙ c.if-raised.false) in

@@ -10,6 +10,4 @@ returns-then-f-eq1 c = rw (eq-eqb _ 1 c.if-f-eq1.true)
 pub returns : goal.returns
 unfolding kept_after
 returns c =
-    
-    
     rw (ne_eqb _ 1 c.if-f-eq1.false, c.set_if.ensures, c.set_if-2.ensures, c.set_if-3.ensures)
