@@ -7,9 +7,6 @@ use Rattle.device.specs.declared.JumpRan.{JumpRan}
 use mathlib.Core.Path.{ap, ◌∙◌}
 use Rattle.current.proofs.jump_ran.Goals as goal
 
-pub shape_of-out : goal.shape_of-out
-shape_of-out c = c.put_triple-end.auto.out
-
 pub returns : goal.returns
 returns c =
     let e = c.run-r.ensures.outcome in

@@ -7,9 +7,6 @@ use Rattle.device.specs.declared.Jumped.{Jumped}
 use mathlib.Core.Path.{ap, ◌∙◌}
 use Rattle.current.proofs.jumped.Goals as goal
 
-pub shape_of-out : goal.shape_of-out
-shape_of-out c = c.put_pair-end.auto.out
-
 pub returns : goal.returns
 returns c =
     let e = c.jump-j.ensures.outcome in

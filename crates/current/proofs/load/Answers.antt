@@ -7,12 +7,6 @@ use mathlib.Core.Path.{◌≡◌, sym, ap, ◌∙◌}
 use lib.ListN.{length}
 use Rattle.current.proofs.load.Goals as goal
 
-pub shape_of-kept : goal.shape_of-kept
-shape_of-kept c = c.put.auto.out
-
-pub shape_of-out : goal.shape_of-out
-shape_of-out c = c.put_done-end.auto.out
-
 pub returns : goal.returns
 returns c =
     let pre = c.requires in

@@ -12,18 +12,12 @@ put_line-requires c =
     let long : length c.put_state.new.out ≡ state_count = c.put_state.auto.out in
     omega (arith, line-room c.put_state.new.out, c.requires.longest_answer_in_bounds)
 
-pub shape_of-out-then-s : goal.shape_of-out-then-s
-shape_of-out-then-s c = c.put_line.auto.out
-
 pub returns-then-s : goal.returns-then-s
 unfolding current_numbers
 returns-then-s c = simp c.if-s.true (rw c.put_state.ensures at c.put_line.ensures)
 
 pub put_line-requires-2 : goal.put_line-requires-2
 put_line-requires-2 c = omega (arith, line-room c.args.kept.now, c.requires.kept_len, c.requires.longest_answer_in_bounds)
-
-pub shape_of-out : goal.shape_of-out
-shape_of-out c = c.put_line-2.auto.out
 
 pub returns : goal.returns
 unfolding current_numbers

@@ -6,9 +6,6 @@ use Rattle.capture.specs.declared.Replayed.{Replayed}
 use mathlib.Core.Path.{ap, ◌∙◌}
 use Rattle.current.proofs.replayed.Goals as goal
 
-pub shape_of-out : goal.shape_of-out
-shape_of-out c = c.put_outcome-end.auto.out
-
 pub returns : goal.returns
 returns c =
     let e = c.replay-played.ensures.value in

@@ -15,9 +15,6 @@ put_line-end-requires c =
     let long : length c.step_numbers-n.result ≡ 8 = ap length c.step_numbers-n.ensures in
     omega (arith, line-room c.step_numbers-n.result)
 
-pub shape_of-out : goal.shape_of-out
-shape_of-out c = c.put_line-end.auto.out
-
 pub returns : goal.returns
 returns c =
     let e = c.step-a.ensures in
