@@ -1,0 +1,24 @@
+-- One field for each part.
+use Rattle.current.specs.Current.{broken}
+use borrow.Author.Tests.{ne_eqb}
+use Rattle.current.proofs.broken.Goals as goal
+
+pub returns-in-1 : goal.returns-in-1
+unfolding broken
+returns-in-1 c = simp c.in-1.is
+
+pub returns-in-2 : goal.returns-in-2
+unfolding broken
+returns-in-2 c = simp c.in-2.is
+
+pub returns-in-3 : goal.returns-in-3
+unfolding broken
+returns-in-3 c = simp c.in-3.is
+
+pub returns-in-4 : goal.returns-in-4
+unfolding broken
+returns-in-4 c = simp c.in-4.is
+
+pub returns-in_default : goal.returns-in_default
+unfolding broken
+returns-in_default c = let r = c.in_default.in_default-own.rest in simp (ne_eqb, r.1, r.0.1, r.0.0.1, r.0.0.0.1)

@@ -1,0 +1,24 @@
+-- The numbers of the state, or those loaded last.
+use Rattle.text.proofs.Decimals.{line-room}
+use Rattle.numbers.specs.Numbers.{state_count}
+use Rattle.current.specs.Current.{current_numbers}
+use mathlib.Core.Path.{◌≡◌}
+use lib.ListN.{length}
+use native.Mathlib.Omega.{arith}
+use Rattle.current.proofs.put_current.Goals as goal
+
+pub put_line-requires : goal.put_line-requires
+put_line-requires c =
+    let long : length c.put_state.new.out ≡ state_count = c.put_state.auto.out in
+    omega (arith, line-room c.put_state.new.out, c.requires.longest_answer_in_bounds)
+
+pub returns-then-s : goal.returns-then-s
+unfolding current_numbers
+returns-then-s c = simp c.if-s.true (rw c.put_state.ensures at c.put_line.ensures)
+
+pub put_line-requires-2 : goal.put_line-requires-2
+put_line-requires-2 c = omega (arith, line-room c.args.kept.now, c.requires.kept_len, c.requires.longest_answer_in_bounds)
+
+pub returns : goal.returns
+unfolding current_numbers
+returns c = simp c.if-s.false c.put_line-2.ensures
