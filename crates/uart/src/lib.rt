@@ -9,7 +9,7 @@
 
 ghost use Rattle.std.specs.Prelude.{◌≡◌, leb};
 ghost use Rattle.device.specs.State.{fresh_of};
-ghost use Rattle.device.specs.Pins.{no_outputs};
+ghost use Rattle.device.specs.Pins.{outputs as «outputs-of», no_outputs};
 ghost use Rattle.device.specs.Calls.{refused as «refused-of», reset_of, read_of, write_of, sin_of, modem_of, tick_of, ticks_answer, pins_of};
 
 use device::{Answer, Looked, Outputs, State};
@@ -47,7 +47,7 @@ fn refused(number: u8, bad: u8, s: State) -> Answer
 
 // The answer of a step that left this state, with its pins. (They are computed where the state is: in
 // here, the compiler would copy the state once more for them.)
-fn answered(t: State, outputs: Outputs, byte: u8) -> Answer
+fn answered_with(t: State, outputs: Outputs, byte: u8) -> Answer
     ensures { result ≡ record { number = 0; part = 0; byte = byte; outputs = outputs; state = t } }
 {
     let number = answer::DONE;
@@ -58,6 +58,13 @@ fn answered(t: State, outputs: Outputs, byte: u8) -> Answer
         outputs,
         state: t,
     }
+}
+
+// The answer of a step that left this state: the pins are those after it.
+fn answered(t: State, byte: u8) -> Answer
+    ensures { result ≡ record { number = 0; part = 0; byte = byte; outputs = «outputs-of» t; state = t } }
+{
+    answered_with(t, outputs(t), byte)
 }
 
 // Whether a register has this address.
@@ -82,8 +89,7 @@ pub fn reset(s: State) -> Answer
     if part != NONE {
         return refused(answer::MALFORMED, part, s);
     }
-    let fresh = step::reset(s);
-    answered(fresh, outputs(fresh), 0)
+    answered(step::reset(s), 0)
 }
 
 // A register read at an address. Most reads change nothing.
@@ -99,7 +105,7 @@ pub fn read(s: State, address: u8) -> Answer
     }
     let byte = bus::value(s, address);
     if !bus::read_changes(s, address) {
-        return answered(s, outputs(s), byte);
+        return answered_with(s, outputs(s), byte);
     }
     if bus::takes(s, address) {
         let r = step::take(s);
@@ -108,10 +114,10 @@ pub fn read(s: State, address: u8) -> Answer
         let mut taken = s;
         taken.rx = rx;
         taken.latches = latches;
-        return answered(taken, outputs(taken), byte);
+        return answered_with(taken, outputs(taken), byte);
     }
     let after = step::after_read(s, address);
-    answered(after, outputs(after), byte)
+    answered_with(after, outputs(after), byte)
 }
 
 // A register write of a byte at an address. What it changes is stored here, where the answer is made: a
@@ -134,10 +140,10 @@ pub fn write(s: State, address: u8, byte: u8) -> Answer
             let mut queued = s;
             queued.tx = tx;
             queued.latches = latches;
-            return answered(queued, outputs(queued), 0);
+            return answered_with(queued, outputs(queued), 0);
         }
         let set = step::write_queue(s, address, byte);
-        return answered(set, outputs(set), 0);
+        return answered_with(set, outputs(set), 0);
     }
     let n = step::numbers(s, address, byte);
     let registers = n.registers;
@@ -147,7 +153,7 @@ pub fn write(s: State, address: u8, byte: u8) -> Answer
     written.registers = registers;
     written.baud = baud;
     written.latches = latches;
-    answered(written, outputs(written), 0)
+    answered_with(written, outputs(written), 0)
 }
 
 // The pin SIN at a level.
@@ -161,8 +167,7 @@ pub fn set_sin(s: State, level: u8) -> Answer
     if limits::SIN_MOST < level {
         return refused(answer::BAD_LEVEL, NONE, s);
     }
-    let heard = step::set_sin(s, level);
-    answered(heard, outputs(heard), 0)
+    answered(step::set_sin(s, level), 0)
 }
 
 // The modem pins CTS, DSR, RI, DCD asserted as bits 0..3 say.
@@ -176,8 +181,7 @@ pub fn set_modem(s: State, levels: u8) -> Answer
     if limits::MODEM_MOST < levels {
         return refused(answer::BAD_LEVEL, NONE, s);
     }
-    let moved = step::set_modem(s, levels);
-    answered(moved, outputs(moved), 0)
+    answered(step::set_modem(s, levels), 0)
 }
 
 // One tick of the clock.
@@ -199,10 +203,10 @@ pub fn ticks(s: State, n: u32) -> Answer
         let k = s.baud.k - n;
         let mut counted = s;
         counted.baud.k = k;
-        return answered(counted, outputs(counted), 0);
+        return answered_with(counted, outputs(counted), 0);
     }
     let later = clock::advance(s, n);
-    answered(later, outputs(later), 0)
+    answered_with(later, outputs(later), 0)
 }
 
 // The output pins as they are.

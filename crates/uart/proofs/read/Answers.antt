@@ -31,7 +31,7 @@ returns-then-not-read_changes c =
     let a = c.args.address in
     let well : well_formed s ≡ true = c.part_of-part.ensures.none ∙ eq-eqb _ _ c.if-part-ne-NONE.false in
     let same : settled (read_register s a).state ≡ s = read_stays s a well (c.read_changes.ensures c.if-not-read_changes.true) in
-    rw (c.answered.ensures, c.outputs.ensures, c.value-byte.ensures, same) (simp (well, sym c.is_register.ensures ∙ c.if-not-is_register.false, same))
+    rw (c.answered_with.ensures, c.outputs.ensures, c.value-byte.ensures, same) (simp (well, sym c.is_register.ensures ∙ c.if-not-is_register.false, same))
 
 pub take-r-requires : goal.take-r-requires
 take-r-requires c = some_taken c.args.s c.args.address (sym c.takes.ensures ∙ c.if-takes.true)
@@ -42,9 +42,9 @@ returns-then-takes c =
     let s = c.args.s in
     let a = c.args.address in
     let all : with_latches (with_rx s (settled (rbr_read s).state).rx) (settled (rbr_read s).state).latches ≡ settled (read_register s a).state = taken s a (sym c.takes.ensures ∙ c.if-takes.true) in
-    rw (c.answered-then-takes.ensures, c.outputs-then-takes.ensures, c.take-r.ensures, c.value-byte.ensures)
+    rw (c.answered_with-then-takes.ensures, c.outputs-then-takes.ensures, c.take-r.ensures, c.value-byte.ensures)
     (ap (λ (t : State). record { number = 0; part = 0; byte = (read_register s a).byte; outputs = outputs t; state = t }) all ∙ simp (c.part_of-part.ensures.none ∙ eq-eqb _ _ c.if-part-ne-NONE.false, sym c.is_register.ensures ∙ c.if-not-is_register.false))
 
 pub returns : goal.returns
 unfolding read_of done
-returns c = rw (c.answered-2.ensures, c.outputs-2.ensures, c.after_read-after.ensures, c.value-byte.ensures) (simp (c.part_of-part.ensures.none ∙ eq-eqb _ _ c.if-part-ne-NONE.false, sym c.is_register.ensures ∙ c.if-not-is_register.false))
+returns c = rw (c.answered_with-2.ensures, c.outputs-2.ensures, c.after_read-after.ensures, c.value-byte.ensures) (simp (c.part_of-part.ensures.none ∙ eq-eqb _ _ c.if-part-ne-NONE.false, sym c.is_register.ensures ∙ c.if-not-is_register.false))

@@ -10,4 +10,4 @@ returns-then-part-ne-NONE c = rw (c.refused.ensures, c.part_of-part.ensures.lowe
 
 pub returns : goal.returns
 unfolding reset_of done
-returns c = rw (c.answered.ensures, c.outputs.ensures, c.reset-fresh.ensures) (simp (c.part_of-part.ensures.none ∙ eq-eqb _ _ c.if-part-ne-NONE.false))
+returns c = rw (c.answered.ensures, c.reset.ensures) (simp (c.part_of-part.ensures.none ∙ eq-eqb _ _ c.if-part-ne-NONE.false))

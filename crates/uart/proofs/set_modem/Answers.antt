@@ -14,4 +14,4 @@ returns-then-levels-gt-MODEM_MOST c = rw c.refused-then-levels-gt-MODEM_MOST.ens
 
 pub returns : goal.returns
 unfolding modem_of done
-returns c = rw (c.answered.ensures, c.outputs.ensures, c.set_modem-moved.ensures) (simp (c.part_of-part.ensures.none ∙ eq-eqb _ _ c.if-part-ne-NONE.false, le-leb _ _ c.if-levels-gt-MODEM_MOST.false))
+returns c = rw (c.answered.ensures, c.set_modem.ensures) (simp (c.part_of-part.ensures.none ∙ eq-eqb _ _ c.if-part-ne-NONE.false, le-leb _ _ c.if-levels-gt-MODEM_MOST.false))

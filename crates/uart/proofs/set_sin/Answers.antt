@@ -12,9 +12,9 @@ pub returns-then-level-gt-SIN_MOST : goal.returns-then-level-gt-SIN_MOST
 unfolding sin_of
 returns-then-level-gt-SIN_MOST c = rw c.refused-then-level-gt-SIN_MOST.ensures (simp (c.part_of-part.ensures.none ∙ eq-eqb _ _ c.if-part-ne-NONE.false, lt-leb _ _ c.if-level-gt-SIN_MOST.true))
 
-pub set_sin-heard-requires : goal.set_sin-heard-requires
-set_sin-heard-requires c = c.part_of-part.ensures.none ∙ eq-eqb _ _ c.if-part-ne-NONE.false
+pub set_sin-requires : goal.set_sin-requires
+set_sin-requires c = c.part_of-part.ensures.none ∙ eq-eqb _ _ c.if-part-ne-NONE.false
 
 pub returns : goal.returns
 unfolding sin_of done
-returns c = rw (c.answered.ensures, c.outputs.ensures, c.set_sin-heard.ensures) (simp (c.part_of-part.ensures.none ∙ eq-eqb _ _ c.if-part-ne-NONE.false, le-leb _ _ c.if-level-gt-SIN_MOST.false))
+returns c = rw (c.answered.ensures, c.set_sin.ensures) (simp (c.part_of-part.ensures.none ∙ eq-eqb _ _ c.if-part-ne-NONE.false, le-leb _ _ c.if-level-gt-SIN_MOST.false))

@@ -19,7 +19,7 @@ pub returns-then-n-s : goal.returns-then-n-s
 unfolding ticks_answer
 returns-then-n-s c =
     let well = c.part_of-part.ensures.none ∙ eq-eqb _ _ c.if-part-ne-NONE.false in
-    rw (c.answered.ensures, c.outputs.ensures)
+    rw (c.answered_with.ensures, c.outputs.ensures)
     (ap answered (counts_down _ _ (record { well = well; places = record { bytes_long = search rules; entries_long = search (length_mapped, c.well_formed, rules) } }) c.if-n-s.true) ∙ simp well)
 
 pub advance-later-requires : goal.advance-later-requires
@@ -27,4 +27,4 @@ advance-later-requires c = c.part_of-part.ensures.none ∙ eq-eqb _ _ c.if-part-
 
 pub returns : goal.returns
 unfolding ticks_answer
-returns c = rw (c.answered-2.ensures, c.outputs-2.ensures, c.advance-later.ensures) (simp (c.part_of-part.ensures.none ∙ eq-eqb _ _ c.if-part-ne-NONE.false))
+returns c = rw (c.answered_with-2.ensures, c.outputs-2.ensures, c.advance-later.ensures) (simp (c.part_of-part.ensures.none ∙ eq-eqb _ _ c.if-part-ne-NONE.false))

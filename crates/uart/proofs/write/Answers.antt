@@ -23,7 +23,7 @@ returns-then-address-eq-THR c =
     let s = c.args.s in
     let a = c.args.address in
     let all = queued s a c.args.byte (sym c.reaches_queue.ensures ∙ c.if-reaches_queue.true) c.if-address-eq-THR.true in
-    rw (c.answered.ensures, c.outputs.ensures, c.put-p.ensures)
+    rw (c.answered_with.ensures, c.outputs.ensures, c.put-p.ensures)
     (ap answered all ∙ simp (c.part_of-part.ensures.none ∙ eq-eqb _ _ c.if-part-ne-NONE.false, sym c.is_register.ensures ∙ c.if-not-is_register.false))
 
 pub write_queue-set-requires : goal.write_queue-set-requires
@@ -31,7 +31,7 @@ write_queue-set-requires c = sym c.reaches_queue.ensures ∙ c.if-reaches_queue.
 
 pub returns-then-reaches_queue : goal.returns-then-reaches_queue
 unfolding write_of done
-returns-then-reaches_queue c = rw (c.answered-then-reaches_queue.ensures, c.outputs-then-reaches_queue.ensures, c.write_queue-set.ensures) (simp (c.part_of-part.ensures.none ∙ eq-eqb _ _ c.if-part-ne-NONE.false, sym c.is_register.ensures ∙ c.if-not-is_register.false))
+returns-then-reaches_queue c = rw (c.answered_with-then-reaches_queue.ensures, c.outputs-then-reaches_queue.ensures, c.write_queue-set.ensures) (simp (c.part_of-part.ensures.none ∙ eq-eqb _ _ c.if-part-ne-NONE.false, sym c.is_register.ensures ∙ c.if-not-is_register.false))
 
 pub numbers-n-requires : goal.numbers-n-requires
 numbers-n-requires c = sym c.reaches_queue.ensures ∙ c.if-reaches_queue.false
@@ -40,5 +40,5 @@ pub returns : goal.returns
 unfolding write_of done
 returns c =
     let apart = sym c.reaches_queue.ensures ∙ c.if-reaches_queue.false in
-    rw (c.answered-2.ensures, c.outputs-2.ensures, c.numbers-n.ensures)
+    rw (c.answered_with-2.ensures, c.outputs-2.ensures, c.numbers-n.ensures)
     (ap answered (sym (numbers-settled _ _ _ apart)) ∙ simp (c.part_of-part.ensures.none ∙ eq-eqb _ _ c.if-part-ne-NONE.false, sym c.is_register.ensures ∙ c.if-not-is_register.false))
