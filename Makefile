@@ -42,7 +42,7 @@ tools: $(ARCHIVE)
 	@$(MAKE) -s -C tools all
 
 $(ARCHIVE): $(call sources_of,export)
-	$(call quietly,staticlib,rt lib export)
+	$(call quietly,staticlib,(cd crates/export && rt lib))
 	@mkdir -p $(@D)
 	@cp crates/export/out/libexport.a $@
 
@@ -56,7 +56,7 @@ $(SHARED): $(ARCHIVE) $(HEADER)
 
 $(foreach program,$(PROGRAMS),$(eval target/bin/$(program): $(call sources_of,$(program))))
 target/bin/%:
-	$(call quietly,$*,rt run $* </dev/null)
+	$(call quietly,$*,(cd crates/$* && rt run </dev/null))
 	@mkdir -p $(@D)
 	@cp crates/$*/out/$* $@
 

@@ -13,7 +13,7 @@ ghost use Rattle.device.specs.Thr.{thr_write};
 ghost use Rattle.device.specs.Calls.{read_register, write_register, ticks_of};
 ghost use Rattle.invariant.specs.Touch.{reaches_queue, numbers_of};
 
-use device::{Inputs, Numbers, State, with_inputs};
+use device::{Inputs, Numbers, Reading, State, with_inputs};
 use fifos::rbr::Taken;
 use fifos::thr::Queued;
 use fifos::{rbr, thr};
@@ -25,6 +25,21 @@ pub fn reset(s: State) -> State
     ensures { result ≡ settled (reset_state s) }
 {
     autoflow::settle(device::reset(s))
+}
+
+// A register read: the byte, and the state after it. Most reads change nothing.
+pub fn read(s: State, address: u8) -> Reading
+    requires { well_formed s ≡ true }
+    ensures { result ≡ record { byte = (read_register s address).byte; state = settled (read_register s address).state } }
+{
+    let byte = bus::value(s, address);
+    if !bus::read_changes(s, address) {
+        return Reading { byte, state: s };
+    }
+    Reading {
+        byte,
+        state: after_read(s, address),
+    }
 }
 
 // The state after a register read.

@@ -9,7 +9,7 @@ pub slice_bounds-line-end : goal.slice_bounds-line-end
 slice_bounds-line-end c = appended_room _ _ _ _ _ c.put_answer-end.ensures (omega arith)
 
 pub slice_bounds-write_line-end : goal.slice_bounds-write_line-end
-slice_bounds-write_line-end c = sym (length-take-le _ _ (array-share-prefix-line c))
+slice_bounds-write_line-end c = sym (length-take-le _ _ (appended_room _ _ _ _ _ c.put_answer-end.ensures (omega arith)))
 
 pub write_line-requires : goal.write_line-requires
 write_line-requires c = c.put_answer-end.ensures.holds

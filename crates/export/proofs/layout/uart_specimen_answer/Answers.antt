@@ -1,0 +1,5 @@
+-- Each part is the definition's.
+use Rattle.export.proofs.layout.uart_specimen_answer.Goals as goal
+
+pub returns : goal.returns
+returns c = rw (c.uart_specimen_state.ensures, c.uart_specimen_looked-looked.ensures)
