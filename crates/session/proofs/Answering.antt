@@ -6,9 +6,7 @@ use mathlib.Core.List.{List, [], ◌∷◌}
 use lib.ListN.{take, drop}
 use lib.Seq.{take-nil}
 use native.Mathlib.Omega.{arith}
-use denote.Enum.Declared.{tag_of}
-use types.Run.{OneOf, miss}
-use Rattle.command.specs.contracts.Command.{the_type}
+use Rattle.command.specs.declared.Call.{Call}
 use Rattle.command.specs.declared.Command.{Command}
 use Rattle.current.specs.declared.Session.{Session}
 use Rattle.text.specs.Text.{Appended}
@@ -30,26 +28,33 @@ drop-take (suc from) (suc to) (x ∷ xs) =
     let e : suc to - suc from ≡ to - from = omega arith in
     rw e (drop-take from to xs)
 
--- The commands that `answer` leaves to `query`, by their places in the enum: they change nothing.
-abbrev pub queries : List ℕ
-queries = 2 ∷ 4 ∷ 5 ∷ 6 ∷ 9 ∷ 10 ∷ 14 ∷ []
-
-pub no_change : (c : Command) → OneOf queries (tag_of the_type c) → changes_nothing c ≡ true
-no_change Command.Fresh h = absurd (miss queries 0 tt h)
-no_change Command.Load h = absurd (miss queries 1 tt h)
-no_change Command.State h = refl
-no_change (Command.Step c) h = absurd (miss queries 3 tt h)
-no_change Command.Pins h = refl
-no_change Command.Forecast h = refl
-no_change (Command.Level t) h = refl
-no_change (Command.Run n) h = absurd (miss queries 7 tt h)
-no_change (Command.Replay v n) h = absurd (miss queries 8 tt h)
-no_change Command.Part h = refl
-no_change (Command.Divisor c r) h = refl
-no_change (Command.Expect v room n) h = absurd (miss queries 11 tt h)
-no_change (Command.Jump n) h = absurd (miss queries 12 tt h)
-no_change (Command.JumpRun n) h = absurd (miss queries 13 tt h)
-no_change Command.Bad h = refl
+-- The commands that `answer` leaves to `query` change nothing.
+pub no_change :
+    (c : Command)
+    → ((s : Call) → c ≡ Command.Step s → ⊥)
+    → (c ≡ Command.Fresh → ⊥)
+    → (c ≡ Command.Load → ⊥)
+    → ((n : ℕ) → c ≡ Command.Run n → ⊥)
+    → ((n : ℕ) → c ≡ Command.Jump n → ⊥)
+    → ((n : ℕ) → c ≡ Command.JumpRun n → ⊥)
+    → ((v n : ℕ) → c ≡ Command.Replay v n → ⊥)
+    → ((v room n : ℕ) → c ≡ Command.Expect v room n → ⊥)
+    → changes_nothing c ≡ true
+no_change Command.Fresh _ h _ _ _ _ _ _ = absurd (h refl)
+no_change Command.Load _ _ h _ _ _ _ _ = absurd (h refl)
+no_change Command.State _ _ _ _ _ _ _ _ = refl
+no_change (Command.Step c) h _ _ _ _ _ _ _ = absurd (h c refl)
+no_change Command.Pins _ _ _ _ _ _ _ _ = refl
+no_change Command.Forecast _ _ _ _ _ _ _ _ = refl
+no_change (Command.Level t) _ _ _ _ _ _ _ _ = refl
+no_change (Command.Run n) _ _ _ h _ _ _ _ = absurd (h n refl)
+no_change (Command.Replay v n) _ _ _ _ _ _ h _ = absurd (h v n refl)
+no_change Command.Part _ _ _ _ _ _ _ _ = refl
+no_change (Command.Divisor c r) _ _ _ _ _ _ _ _ = refl
+no_change (Command.Expect v room n) _ _ _ _ _ _ _ h = absurd (h v room n refl)
+no_change (Command.Jump n) _ _ _ _ h _ _ _ = absurd (h n refl)
+no_change (Command.JumpRun n) _ _ _ _ _ h _ _ = absurd (h n refl)
+no_change Command.Bad _ _ _ _ _ _ _ _ = refl
 
 -- what such a command leaves, and writes
 pub unchanged : (s : Session) (kept ns : List ℕ) (c : Command) → changes_nothing c ≡ true → (s ≡ next_of s ns c) × (kept ≡ kept_of kept ns c) × (said_of s kept [] c ≡ said_of s kept ns c)

@@ -1,6 +1,7 @@
 -- One field for each part.
 use Rattle.current.specs.Current.{broken}
-use borrow.Author.Tests.{ne_eqb}
+use Rattle.std.proofs.Common.{arith}
+use Rattle.std.proofs.lemmas.Grind.{common_steps}
 use Rattle.current.proofs.broken.Goals as goal
 
 pub returns-in-1 : goal.returns-in-1
@@ -21,4 +22,4 @@ returns-in-4 c = simp c.in-4.is
 
 pub returns-in_default : goal.returns-in_default
 unfolding broken
-returns-in_default c = let r = c.in_default.in_default-own.rest in simp (ne_eqb, r.1, r.0.1, r.0.0.1, r.0.0.0.1)
+returns-in_default c = grind (arith, common_steps)
