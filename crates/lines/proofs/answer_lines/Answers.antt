@@ -13,15 +13,6 @@ overflow_add-end c = omega (arith, c.loop-end.invariant.1.1.same, c.loop-end.inv
 pub find-stop-requires : goal.find-stop-requires
 find-stop-requires c = c.loop-end.invariant.1.1.inside
 
-pub shape_of-numbers-then-stop-block : goal.shape_of-numbers-then-stop-block
-shape_of-numbers-then-stop-block c = c.loop-end.invariant.0
-
-pub shape_of-kept-then-stop-block : goal.shape_of-kept-then-stop-block
-shape_of-kept-then-stop-block c = c.loop-end.invariant.1.0
-
-pub shape_of-out-then-stop-block : goal.shape_of-out-then-stop-block
-shape_of-out-then-stop-block c = c.loop-end.invariant.1.1.same
-
 pub returns-then-stop-block : goal.returns-then-stop-block
 returns-then-stop-block c =
     let a = c.loop-end.invariant.1.1 in
@@ -46,15 +37,6 @@ loop-end-preserved c =
         answer_turns _ _ _ _ i.1.1 c.find-stop.ensures.value (omega (arith, c.find-stop.ensures.upper_bound, c.if-stop-block.false)) a.auto.out a.ensures.kept_after a.ensures.appended,
       ),
     )
-
-pub shape_of-numbers : goal.shape_of-numbers
-shape_of-numbers c = c.loop-end.invariant.0
-
-pub shape_of-kept : goal.shape_of-kept
-shape_of-kept c = c.loop-end.invariant.1.0
-
-pub shape_of-out : goal.shape_of-out
-shape_of-out c = c.loop-end.invariant.1.1.same
 
 pub returns : goal.returns
 returns c =

@@ -20,9 +20,6 @@ bounds-block-i c = omega (arith, c.loop-i.invariant.1.long, c.at_most_held-n.ens
 pub loop-i-preserved : goal.loop-i-preserved
 loop-i-preserved c = (omega arith, move_turns c.loop-i.invariant.1 (omega (arith, c.at_most_held-n.ensures)))
 
-pub shape_of-block : goal.shape_of-block
-shape_of-block c = c.loop-i.invariant.1.long
-
 pub returns : goal.returns
 returns c =
     let n = c.at_most_held-n in
