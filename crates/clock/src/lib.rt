@@ -10,6 +10,7 @@ ghost use Rattle.std.specs.Prelude.{◌≡◌, true};
 ghost use Rattle.device.specs.State.{with_k};
 ghost use Rattle.device.specs.Calls.{ticks_of};
 ghost use Rattle.device.specs.Ranges.{well_formed};
+ghost use Rattle.clock.specs.Quiet.{assembled};
 
 use device::{Frame, Latches, Receiver, State};
 
@@ -33,15 +34,28 @@ pub struct QuietPulse {
     pub latches: Latches,
 }
 
-// The state with so many ticks to the next pulse.
-fn with_k(s: State, k: u32) -> State
-    ensures { result ≡ with_k s k }
+// The state with these numbers in place of its own.
+fn assemble(s: State, k: u32, x: Frame, v: Receiver, l: Latches) -> State
+    ensures { result ≡ assembled s k x v l }
 {
     let mut b = s.baud;
     b.k = k;
     let mut next = s;
     next.baud = b;
+    next.frame = x;
+    next.receiver = v;
+    next.latches = l;
     next
+}
+
+// The state with so many ticks to the next pulse.
+fn with_k(s: State, k: u32) -> State
+    ensures { result ≡ with_k s k }
+{
+    let x = s.frame;
+    let v = s.receiver;
+    let l = s.latches;
+    assemble(s, k, x, v, l)
 }
 
 // The state n ticks later.
