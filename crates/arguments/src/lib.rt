@@ -1,12 +1,15 @@
 // What the programs do with their arguments, and what they say on standard error.
 #![tactic(auto)]
 
-ghost use Rattle.std.specs.Prelude.{◌≡◌, ◌≤◌, length, take, is_ok};
+ghost use Rattle.std.specs.Prelude.{◌≡◌, ◌≤◌, length, take, is_ok, IfOk};
 
 use std::env::{Env, FillError};
 use std::io;
 use std::io::{IsTerminal, Write};
 use text::words;
+
+// The system's number for a name that is too long.
+const NAME_TOO_LONG: i32 = 36;
 
 // How many arguments there are, with the program's name.
 pub fn count(rt: HostRuntime) -> usize {
@@ -19,11 +22,21 @@ pub fn count(rt: HostRuntime) -> usize {
     usize::MAX
 }
 
-// The length of an argument at the start of a buffer; 0 where there is none, or no room for it.
+// Puts an argument at the start of a buffer, and answers its length. There may be no room for it.
+pub fn read(rt: HostRuntime, i: usize, space: &mut [u8]) -> io::Result<usize>
+    ensures { IfOk result (λ n. (n ≤ length space.new) × (n ≡ length (take n space.new))) }
+{
+    match rt.arg(i, space) {
+        Ok(n) => Ok(n),
+        Err(_) => Err(io::Error::from_raw_os_error(NAME_TOO_LONG)),
+    }
+}
+
+// The same; 0 where there is no such argument, or no room for it.
 fn argument(rt: HostRuntime, i: usize, space: &mut [u8]) -> usize
     ensures { (result ≤ length space.new) × (result ≡ length (take result space.new)) }
 {
-    match rt.arg(i, space) {
+    match read(rt, i, space) {
         Ok(n) => n,
         Err(_) => 0,
     }
@@ -88,8 +101,8 @@ pub fn hint(rt: HostRuntime, text: &[u8]) {
     }
 }
 
-// The system's words for an error, without its number.
-fn words_of(message: &[u8]) -> usize
+// Where the words of an error's message end, before the system's number in parentheses.
+fn words_end(message: &[u8]) -> usize
     ensures { result ≤ length message.now }
 {
     let end = words::find(message, 0, b'(');
@@ -108,7 +121,7 @@ pub fn tell(rt: HostRuntime, program: &[u8], name: &[u8], error: io::Error) {
     match format!(in rt.alloc(); "{error}") {
         Ok(text) => {
             let message = text.as_bytes();
-            let n = words_of(message);
+            let n = words_end(message);
             let _why = write_parts(rt, &message[..n], b"\n", b"", b"").is_ok();
         }
         Err(_) => {

@@ -4,14 +4,8 @@
 
 ghost use Rattle.std.specs.Prelude.{◌≤◌, length};
 
-use std::env::Env;
-use std::fs::File;
-use std::io;
 use std::io::Write;
 use text::words;
-
-// The system's number for a name that is too long.
-const NAME_TOO_LONG: i32 = 36;
 
 // Says what the program is.
 fn help(rt: HostRuntime) {
@@ -31,14 +25,6 @@ fn expect_input(rt: HostRuntime, name: &[u8])
     expect_blocks::expect(rt, &mut rt.stdin(), name);
 }
 
-// The file of this name. (Today's library opens a name that is text.)
-fn opened(rt: HostRuntime, name: &[u8]) -> io::Result<File> {
-    match str::from_utf8(name) {
-        Ok(path) => File::open(&rt, path),
-        Err(_) => Err(io::Error::from(io::ErrorKind::InvalidFilename)),
-    }
-}
-
 // Writes what is expected for the capture of this name.
 fn expect_named(rt: HostRuntime, name: &[u8])
     requires { length name.now ≤ 4096 }
@@ -47,7 +33,7 @@ fn expect_named(rt: HostRuntime, name: &[u8])
         expect_input(rt, name);
         return;
     }
-    match opened(rt, name) {
+    match input::opened(rt, name) {
         Ok(mut file) => expect_blocks::expect(rt, &mut file, name),
         Err(e) => arguments::tell(rt, b"expect", name, e),
     }
@@ -56,12 +42,9 @@ fn expect_named(rt: HostRuntime, name: &[u8])
 // Writes what is expected for the capture that the first argument names.
 fn expect_argument(rt: HostRuntime) {
     let mut space = [0u8; 4096];
-    match rt.arg(1, &mut space) {
+    match arguments::read(rt, 1, &mut space) {
         Ok(n) => expect_named(rt, &space[..n]),
-        Err(_) => {
-            let long = io::Error::from_raw_os_error(NAME_TOO_LONG);
-            arguments::tell(rt, b"expect", b"an argument", long);
-        }
+        Err(e) => arguments::tell(rt, b"expect", b"an argument", e),
     }
 }
 

@@ -1,5 +1,5 @@
-// The calls for programs in C, Rust and other languages, under plain names: `rt lib export`
-// makes the library that they link. The structs go by value, a run of records as its address and
+// The calls for programs in C, Rust and other languages, under plain names: `rt lib` in this
+// folder makes the library that they link. The structs go by value, a run of records as its address and
 // length, and each call has the contract of the call of `uart`, `foretell`, `jump`, `client`,
 // `expected`, `expected_file` or `rate` that it hands on.
 // clients/tl16c750.h declares the same for C.

@@ -6,6 +6,7 @@ pub mod progress;
 ghost use Rattle.std.specs.Prelude.{◌≡◌, ◌+◌, ◌≤◌, ◌<◌, ◌^◌, length, take};
 
 use progress::Watch;
+use std::fs::File;
 use std::io;
 use std::io::Read;
 
@@ -27,6 +28,14 @@ fn read_so_far(count: usize, watch: Watch) -> Filled
         failed: false,
         error: None,
         watch,
+    }
+}
+
+// The file of this name, which has to be text: today's library opens no other.
+pub fn opened(rt: HostRuntime, name: &[u8]) -> io::Result<File> {
+    match str::from_utf8(name) {
+        Ok(path) => File::open(&rt, path),
+        Err(_) => Err(io::Error::from(io::ErrorKind::InvalidFilename)),
     }
 }
 

@@ -5,14 +5,8 @@
 
 ghost use Rattle.std.specs.Prelude.{◌≤◌, length};
 
-use std::env::Env;
-use std::fs::File;
-use std::io;
 use std::io::Write;
 use text::words;
-
-// The system's number for a name that is too long.
-const NAME_TOO_LONG: i32 = 36;
 
 // Says what the program is.
 fn help(rt: HostRuntime) {
@@ -32,14 +26,6 @@ fn replay_input(rt: HostRuntime, several: bool, name: &[u8]) -> bool
     replay_file::replay(rt, &mut rt.stdin(), several, name)
 }
 
-// The file of this name. (Today's library opens a name that is text.)
-fn opened(rt: HostRuntime, name: &[u8]) -> io::Result<File> {
-    match str::from_utf8(name) {
-        Ok(path) => File::open(&rt, path),
-        Err(_) => Err(io::Error::from(io::ErrorKind::InvalidFilename)),
-    }
-}
-
 // Replays the capture of this name.
 fn replay_named(rt: HostRuntime, several: bool, name: &[u8]) -> bool
     requires { length name.now ≤ 4096 }
@@ -47,7 +33,7 @@ fn replay_named(rt: HostRuntime, several: bool, name: &[u8]) -> bool
     if words::same(name, b"-") {
         return replay_input(rt, several, name);
     }
-    match opened(rt, name) {
+    match input::opened(rt, name) {
         Ok(mut file) => replay_file::replay(rt, &mut file, several, name),
         Err(e) => {
             arguments::tell(rt, b"replay", name, e);
@@ -59,11 +45,10 @@ fn replay_named(rt: HostRuntime, several: bool, name: &[u8]) -> bool
 // Replays the capture that an argument names. Answers whether its answer could be written.
 fn replay_argument(rt: HostRuntime, several: bool, i: usize) -> bool {
     let mut space = [0u8; 4096];
-    match rt.arg(i, &mut space) {
+    match arguments::read(rt, i, &mut space) {
         Ok(n) => replay_named(rt, several, &space[..n]),
-        Err(_) => {
-            let long = io::Error::from_raw_os_error(NAME_TOO_LONG);
-            arguments::tell(rt, b"replay", b"an argument", long);
+        Err(e) => {
+            arguments::tell(rt, b"replay", b"an argument", e);
             true
         }
     }

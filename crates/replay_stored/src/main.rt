@@ -3,8 +3,6 @@
 
 ghost use Rattle.std.specs.Prelude.{◌≤◌, length};
 
-use std::fs::File;
-
 const MOST: u32 = 1000;
 
 // A digit's character.
@@ -21,10 +19,7 @@ fn name(n: u32) -> [u8; 3] {
 fn replayed(rt: HostRuntime, path: &[u8]) -> bool
     requires { length path.now ≤ 4096 }
 {
-    let Ok(name) = str::from_utf8(path) else {
-        return false;
-    };
-    let Ok(mut file) = File::open(&rt, name) else {
+    let Ok(mut file) = input::opened(rt, path) else {
         return false;
     };
     replay_file::replay(rt, &mut file, false, path);
