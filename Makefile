@@ -16,8 +16,10 @@ PYTHONDIR = $(shell $(PYTHON) -c 'import site, sys; lib = "$(PREFIX)/lib/"; prin
     lib + "python%d.%d/site-packages" % sys.version_info[:2]))')
 PYTHON_LOOKS = $(PYTHON) -c 'import site, sys; sys.exit("$(PYTHONDIR)" not in site.getsitepackages())'
 
-# $(call sources_of,CRATE): the code of a crate and of all that it uses.
-sources_of = $(wildcard $(patsubst %,crates/%/src/*.rt,$1 $(shell sed -En 's/^$1( staticlib)?://p' crates.txt)))
+# $(call sources_of,CRATE): the code of a crate and of all that it stands on, which crates.txt lists below it.
+sources_of = $(wildcard $(patsubst %,crates/%/src/*.rt,$(shell awk -F: '{ split($$1, head, " "); uses[head[1]] = $$2 } \
+    END { more = "$1"; while (n = split(more, at, " ")) { more = ""; for (i = 1; i <= n; i++) \
+        if (!seen[at[i]]++) { print at[i]; more = more " " uses[at[i]] } } }' crates.txt)))
 
 PROGRAMS = calls replay expect
 TOOLS = capture explain divisor-chart
