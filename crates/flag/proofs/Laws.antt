@@ -2,11 +2,23 @@
 use mathlib.Core.Path.{◌≡◌, refl}
 use mathlib.Core.Bool.{Bool, true, false, cond, ◌&&◌, false≢true}
 use mathlib.Core.List.{List, [], ◌∷◌, ◌++◌}
+use Prim.Native.Nat.{◌<◌}
+use native.Mathlib.Omega.{arith}
+use mir.Val.{bool_byte}
 use borrow.Author.Tests.{lt-ltb, le-ltb, le-leb, lt-leb, eq-eqb, ne_eqb}
-use Rattle.flag.specs.Flag.{every}
+use Rattle.flag.specs.Flag.{every, bit_of}
 
 -- the outcome of a test from the fact that it tests
 pub ruleset tests = (lt-ltb, le-ltb, le-leb, lt-leb, eq-eqb, ne_eqb)
+
+-- a test as the byte that `u8::from` makes of it
+pub from_test : (b : Bool) → bool_byte b ≡ bit_of b
+from_test true = refl
+from_test false = refl
+
+pub bit_small : (b : Bool) → bit_of b < 2
+bit_small true = omega arith
+bit_small false = omega arith
 
 -- a claim about what a test picks, from the claim about each side
 pub by_test : {A : Type 0} (P : A → Type 0) (b : Bool) (x y : A) → (b ≡ true → P x) → (b ≡ false → P y) → P (cond b x y)

@@ -53,5 +53,5 @@ pub fn bit(a: bool) -> u8
 pub fn nibble(b0: bool, b1: bool, b2: bool, b3: bool) -> u8
     ensures { (result ≡ byte_of (b0 ∷ b1 ∷ b2 ∷ b3 ∷ [])) × (result < 16) }
 {
-    bit(b0) + 2 * (bit(b1) + 2 * (bit(b2) + 2 * bit(b3)))
+    u8::from(b0) + 2 * (u8::from(b1) + 2 * (u8::from(b2) + 2 * u8::from(b3)))
 }

@@ -14,14 +14,14 @@ use sheet::bits;
 pub fn data_bits(format: u8) -> u32
     ensures { (result ≡ data_bits format) × (result ≤ 8) }
 {
-    5 + (format % 4) as u32
+    5 + u32::from(format % 4)
 }
 
 // Parity bits, 0 or 1.
 pub fn parity_bits(format: u8) -> u32
     ensures { (result ≡ parity_bits format) × (result ≤ 1) }
 {
-    (format / bits::LCR_PARITY % 2) as u32
+    u32::from(format / bits::LCR_PARITY % 2)
 }
 
 // Pulses of the stop.
@@ -63,7 +63,7 @@ pub fn parity_bit(byte: u8, format: u8) -> u8
 {
     let even = flag::has(format, bits::LCR_EPAR);
     if flag::has(format, bits::LCR_SPAR) {
-        return flag::bit(!even);
+        return u8::from(!even);
     }
     let odd = (u8::count_ones(character(byte, format)) % 2) as u8;
     if even {
@@ -84,11 +84,8 @@ pub fn frame_level(byte: u8, format: u8, place: u32) -> u8
     if at <= last {
         return (byte >> (at - 1)) % 2;
     }
-    if at == last + 1 {
-        if flag::has(format, bits::LCR_PARITY) {
-            return parity_bit(byte, format);
-        }
-        return 1;
+    if at == last + 1 && flag::has(format, bits::LCR_PARITY) {
+        return parity_bit(byte, format);
     }
     1
 }
@@ -98,9 +95,9 @@ pub fn low_bits(byte: u8, format: u8) -> u32
     ensures { (result ≡ low_bits (frame_bits byte format)) × (result < 1024) }
 {
     let n = data_bits(format);
-    let low = (1u32 << n) - 1 - (character(byte, format) as u32);
+    let low = (1u32 << n) - 1 - u32::from(character(byte, format));
     if flag::has(format, bits::LCR_PARITY) {
-        return 1 + 2 * low + (((1 - parity_bit(byte, format)) as u32) << (n + 1));
+        return 1 + 2 * low + (u32::from(1 - parity_bit(byte, format)) << (n + 1));
     }
     1 + 2 * low
 }
@@ -122,5 +119,5 @@ pub fn line_level(left: u32, byte: u8, format: u8) -> u8
     if left == 0 {
         return 1;
     }
-    frame_level(byte, format, less(frame_length(format), left))
+    frame_level(byte, format, frame_length(format).saturating_sub(left))
 }

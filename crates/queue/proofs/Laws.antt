@@ -4,9 +4,9 @@ use Prim.Native.Nat.{ℕ, ◌+◌, ◌-◌, ◌≤◌, ◌<◌, min}
 use mathlib.Core.Path.{◌≡◌, refl, sym, ap, ◌∙◌}
 use mathlib.Core.Bool.{Bool, true, false, cond, not, ◌&&◌, ◌||◌}
 use mathlib.Core.List.{List, [], ◌∷◌, ◌++◌, map}
-use lib.ListN.{length, get_or, take, drop, set, length-take, length-drop, length-map, drop_of_length-le}
-use lib.Seq.{drop-cons, take-suc, set_at, append_snoc, get_or-append-add, get_or-drop, get_or-take, length-take-le, take_all}
-use native.Mathlib.Numerals.{add-one, one-add}
+use lib.ListN.{length, get_or, drop, set, length-take, length-drop, length-map, drop_of_length-le}
+use lib.Seq.{paste, drop-cons, set_at, get_or-take, take_all}
+use native.Mathlib.Numerals.{add-one}
 use native.Mathlib.Omega.{arith}
 use native.Mathlib.Decide.{dec_lt}
 use lib.Dec.{ltb, leb, eqb}
@@ -117,56 +117,18 @@ module _ {A : Type 0} {p : A → Bool} {n m : ℕ} {xs : List A} {b a : Bool} {i
       let k : length (contents m xs) ≤ i = simp length-take (omega (arith, w.long)) in
       sym (or_false a) ∙ rw (drop_of_length-le (contents m xs) k) at w.same
 
--- Shifting: of the n places ys the first i have what stands one place further in xs, the others what stands there in xs.
-pub record Shifting {A : Type 0} (n : ℕ) (xs ys : List A) (i : ℕ) : Type 0 where
-  pub long : length xs ≡ n
-  pub most : i < n
-  pub so_far : ys ≡ take i (drop 1 xs) ++ drop i xs
-
-module _ {A : Type 0} {n : ℕ} {xs ys : List A} {i : ℕ} where
-  -- the place that is filled next, after those that are
-  shift_at : (z : A) → Shifting n xs ys i → ys ≡ take i (drop 1 xs) ++ get_or xs i z ∷ drop (i + 1) xs
-  shift_at z w =
-      let k : i < length xs = omega (arith, w.most, w.long) in
-      w.so_far ∙ ap (λ (r : List A). take i (drop 1 xs) ++ r) (drop_at xs i z k)
-
-  filled : Shifting n xs ys i → length (take i (drop 1 xs)) ≡ i
-  filled w =
-      let m : i ≤ length (drop 1 xs) = simp length-drop (omega (arith, w.most, w.long)) in
-      length-take-le i (drop 1 xs) m
-
-  pub shift_turns : (z : A) → Shifting n xs ys i → i + 1 < n → Shifting n xs (set ys i (get_or ys (i + 1) z)) (i + 1)
-  shift_turns z w h =
-      let s : List A = drop 1 xs in
-      let v : A = get_or xs (i + 1) z in
-      let rest : List A = drop (i + 1) xs in
-      let m : i < length s = simp length-drop (omega (arith, w.long)) in
-      let e : get_or s i z ≡ v = get_or-drop 1 xs i z ∙ simp (add-one, one-add) in
-      let t : take (i + 1) s ≡ take i s ++ (v ∷ []) = rw (← e, add-one) (take-suc s i z m) in
-      let next : get_or ys (i + 1) z ≡ v =
-      ap (λ (r : List A). get_or r (i + 1) z) w.so_far
-      ∙ ap (λ (j : ℕ). get_or (take i s ++ drop i xs) (j + 1) z) (sym (filled w))
-      ∙ get_or-append-add (take i s) (drop i xs) 1 z
-      ∙ get_or-drop i xs 1 z in
-      record {
-        long = w.long;
-        most = h;
-        so_far =
-            ap (λ (a : A). set ys i a) next
-            ∙ ap (λ (r : List A). set r i v) (shift_at z w)
-            ∙ set_at (take i s) (get_or xs i z) rest v i (filled w)
-            ∙ sym (append_snoc (take i s) v rest)
-            ∙ ap (λ (r : List A). r ++ rest) (sym t);
-      }
-
-  pub shift_ends : (z : A) → Shifting n xs ys i → n ≡ i + 1 → set ys i z ≡ shifted z xs
-  unfolding shifted
-  shift_ends z w h =
-      let m : length (drop 1 xs) ≤ i = simp length-drop (omega (arith, w.long)) in
-      let k : length xs ≤ i + 1 = omega (arith, w.long) in
-      ap (λ (r : List A). set r i z) (shift_at z w)
-      ∙ set_at (take i (drop 1 xs)) (get_or xs i z) (drop (i + 1) xs) z i (filled w)
-      ∙ rw (take_all i (drop 1 xs) m, drop_of_length-le xs k)
+-- Shifting: n + 1 places of which each but the last has what stood one place further, and the last is then filled.
+pub shift_copied : {A : Type 0} (z : A) (xs ys : List A) (n : ℕ) → length xs ≡ n + 1 → ys ≡ paste xs 0 (drop 1 xs) n → set ys n z ≡ shifted z xs
+unfolding shifted
+shift_copied {A} z xs ys n l w =
+    let s : List A = drop 1 xs in
+    let long : length s ≡ n = simp length-drop (omega (arith, l)) in
+    let m : length s ≤ n = omega (arith, long) in
+    let k : n < length xs = omega (arith, l) in
+    let o : length xs ≤ n + 1 = omega (arith, l) in
+    let e : 0 + n ≡ n = omega arith in
+    let copied : paste xs 0 s n ≡ s ++ get_or xs n z ∷ [] = rw (e, take_all n s m, drop_at xs n z k, drop_of_length-le xs o) refl in
+    ap (λ (r : List A). set r n z) (w ∙ copied) ∙ set_at s (get_or xs n z) [] z n long
 
 -- A put: a full queue of more than one place keeps its places; else what is put has its place.
 

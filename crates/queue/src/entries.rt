@@ -1,8 +1,8 @@
 // The queue of received entries.
-ghost use Rattle.std.specs.Prelude.{◌≡◌, ◌<◌, ◌≤◌, min};
-ghost use Rattle.queue.specs.Queue.{put_entry, take_entry, no_entries, no_entry, zero_entry, shifted, entry_rest, no_errors, errors_of, errors_within, entries_within, any_error, entry_errors};
+ghost use Rattle.std.specs.Prelude.{◌≡◌, ◌<◌, ◌≤◌};
+ghost use Rattle.queue.specs.Queue.{put_entry, take_entry, no_entries, no_entry, zero_entry, entry_rest, no_errors, errors_of, errors_within, entries_within, any_error, entry_errors};
 
-use crate::{Entry, EntryQueue, Errors, count_after, keeps, next_place};
+use crate::{Entry, EntryQueue, Errors, count_after, keeps, next_place, shift};
 use sheet::limits;
 
 // The entry of a place not in use.
@@ -18,6 +18,7 @@ pub fn none() -> Entry
 }
 
 // The queue with no entries.
+#[tactic(auto, unfolding(crate::specs::Queue::no_entries))]
 pub fn clear() -> EntryQueue
     ensures { result ≡ no_entries }
 {
@@ -28,20 +29,12 @@ pub fn clear() -> EntryQueue
     }
 }
 
-// Whether the entry is that of a place not in use.
+// Whether the entry is that of a place not in use. By its fields: with a derived `==` the test of all
+// places takes five times as long.
 fn is_zero(e: Entry) -> bool
     ensures { result ≡ zero_entry e }
 {
-    if e.byte != 0 {
-        return false;
-    }
-    if e.pe != 0 {
-        return false;
-    }
-    if e.fe != 0 {
-        return false;
-    }
-    e.bi == 0
+    e.byte == 0 && e.pe == 0 && e.fe == 0 && e.bi == 0
 }
 
 // Whether every place from `count` on is zero. All places are gone over, so that the compiler tests
@@ -51,11 +44,8 @@ pub fn rest_is_zero(q: EntryQueue) -> bool
 {
     let count = q.count;
     let mut zero = true;
-    let mut i: usize = 0;
-    while i < limits::PLACES {
-        let e = q.entries[i];
-        zero = flag::both(zero, flag::implies(count <= i as u32, is_zero(e)));
-        i += 1;
+    for (i, e) in q.entries.iter().enumerate() {
+        zero &= (i as u32) < count || is_zero(*e);
     }
     zero
 }
@@ -86,25 +76,16 @@ pub fn no_errors() -> Errors
 pub fn errors_within(e: Errors, n: u8) -> bool
     ensures { result ≡ errors_within n e }
 {
-    if n < e.pe {
-        return false;
-    }
-    if n < e.fe {
-        return false;
-    }
-    e.bi <= n
+    e.pe <= n && e.fe <= n && e.bi <= n
 }
 
-// Whether PE, FE and BI of every entry are each at most n.
+// Whether PE, FE and BI of every entry are each at most n. With `all` it takes three times as long.
 pub fn entries_within(q: EntryQueue, n: u8) -> bool
     ensures { result ≡ entries_within n q }
 {
     let mut within = true;
-    let mut i: usize = 0;
-    while i < limits::PLACES {
-        let e = q.entries[i];
-        within = flag::both(within, errors_within(errors_of(e), n));
-        i += 1;
+    for e in &q.entries {
+        within &= errors_within(errors_of(*e), n);
     }
     within
 }
@@ -113,17 +94,12 @@ pub fn entries_within(q: EntryQueue, n: u8) -> bool
 pub fn any_set(e: Errors) -> bool
     ensures { result ≡ any_error e }
 {
-    if e.pe == 1 {
-        return true;
-    }
-    if e.fe == 1 {
-        return true;
-    }
-    e.bi == 1
+    e.pe == 1 || e.fe == 1 || e.bi == 1
 }
 
 // The queue of this capacity with e behind the last entry. A full one keeps its entries, but a
 // queue of one place has its entry replaced.
+#[tactic(auto, unfolding(crate::specs::Queue::put_entry, crate::specs::Queue::places_put, crate::specs::Queue::count_put))]
 pub fn put(q: EntryQueue, capacity: u32, e: Entry) -> EntryQueue
     requires { capacity ≤ 64 }
     ensures { result ≡ put_entry capacity q e }
@@ -139,56 +115,28 @@ pub fn put(q: EntryQueue, capacity: u32, e: Entry) -> EntryQueue
     next
 }
 
-// The places in use of a queue with this count.
-fn places_in_use(count: u32) -> usize
-    ensures { result ≡ min count 64 }
-{
-    if count < 64 {
-        count as usize
-    } else {
-        limits::PLACES
-    }
-}
-
-// Whether some entry in the queue has an error.
+// Whether some entry in the queue has an error. With `any` it takes twice as long.
 pub fn any_error(q: EntryQueue) -> bool
     ensures { result ≡ entry_errors q }
 {
-    let n = places_in_use(q.count);
+    let n = (q.count as usize).min(limits::PLACES);
     let mut error = false;
-    let mut i: usize = 0;
-    while i < n {
-        let e = q.entries[i];
-        error = flag::either(error, any_set(errors_of(e)));
-        i += 1;
+    for e in &q.entries[..n] {
+        error |= any_set(errors_of(*e));
     }
     error
 }
 
 // The queue without its oldest entry.
+#[tactic(auto, unfolding(crate::specs::Queue::take_entry))]
 pub fn take(q: EntryQueue) -> EntryQueue
     requires { 0 < q.count }
     ensures { result ≡ take_entry q }
 {
-    let entries = q.entries;
+    let mut entries = q.entries;
+    shift(&mut entries, none());
     EntryQueue {
-        entries: shift(entries),
+        entries,
         count: q.count - 1,
     }
-}
-
-// The entries one place down, the oldest gone and the last place zero.
-fn shift(entries: [Entry; limits::PLACES]) -> [Entry; limits::PLACES]
-    ensures { result ≡ shifted no_entry entries }
-{
-    let e = none();
-    let mut next = entries;
-    let mut i: usize = 0;
-    while i < limits::LAST_PLACE {
-        let x = next[i + 1];
-        next[i] = x;
-        i += 1;
-    }
-    next[limits::LAST_PLACE] = e;
-    next
 }

@@ -10,7 +10,7 @@ pub mod bytes;
 pub mod entries;
 
 ghost use Rattle.std.specs.Prelude.{◌≡◌, cond, not, ◌&&◌, ◌<◌, ◌≤◌, leb, ltb, eqb};
-ghost use Rattle.queue.specs.Queue.{count_put};
+ghost use Rattle.queue.specs.Queue.{count_put, shifted};
 
 use sheet::limits;
 
@@ -53,7 +53,7 @@ pub struct EntryQueue {
 fn keeps(count: u32, capacity: u32) -> bool
     ensures { result ≡ (leb capacity count && not (eqb capacity 1)) }
 {
-    flag::both(capacity <= count, capacity != 1)
+    capacity <= count && capacity != 1
 }
 
 // Where the next one goes: behind the last one, or to the first place of a full queue.
@@ -65,9 +65,18 @@ fn next_place(count: u32, capacity: u32) -> usize
 }
 
 // The count after a put.
+#[tactic(auto, unfolding(crate::specs::Queue::count_put))]
 fn count_after(count: u32, capacity: u32) -> u32
     requires { capacity ≤ 64 }
     ensures { result ≡ count_put capacity count }
 {
     if count < capacity { count + 1 } else { count }
+}
+
+// The places one down, the oldest gone and the last one empty.
+fn shift<T: Copy>(places: &mut [T; limits::PLACES], empty: T)
+    ensures { places.new ≡ shifted empty places.old }
+{
+    places.copy_within(1.., 0);
+    places[limits::LAST_PLACE] = empty;
 }

@@ -1,13 +1,12 @@
 // The ranges of the queues, of the frame now sent and of the receiver: parts 3 and 4 of `Ranges.antt`.
 #![tactic(auto)]
 
-ghost use Rattle.std.specs.Prelude.{◌≡◌, cond, ◌&&◌, ◌^◌, ◌≤◌, min, ltb, eqb};
+ghost use Rattle.std.specs.Prelude.{◌≡◌, cond, ◌&&◌, ◌^◌, ◌≤◌, ltb, eqb};
 ghost use Rattle.queue.specs.Queue.{errors_within, entries_within};
 ghost use Rattle.flag.specs.Flag.{every, implies as «implies-of»};
 ghost use Rattle.device.specs.Ranges.{transmit_ranges, receive_ranges, character_ranges, outside_ranges};
 
 use device::{FifoControl, Frame, Receiver};
-use flag::{both, implies};
 use queue::{ByteQueue, EntryQueue, Errors};
 use settings::{fifo, sampling};
 use sheet::limits;
@@ -16,7 +15,7 @@ use sheet::limits;
 fn frame_in_range(x: Frame) -> bool
     ensures { result ≡ «implies-of» (eqb x.left 0) (eqb x.byte 0 && eqb x.format 0) }
 {
-    implies(x.left == 0, both(x.byte == 0, x.format == 0))
+    x.left != 0 || x.byte == 0 && x.format == 0
 }
 
 // Part 3: transmit queue and frame.
@@ -24,26 +23,12 @@ pub fn transmit_in_range(f: FifoControl, q: ByteQueue, x: Frame) -> bool
     ensures { result ≡ every (transmit_ranges f q x) }
 {
     let left = x.left;
-    both(
-        q.count <= fifo::capacity(f),
-        both(
-            queue::bytes::rest_is_zero(q),
-            both(
-                left <= limits::LEFT_MOST,
-                both(
-                    x.format <= limits::FORMAT_MOST,
-                    both(left <= frame::frame_length(x.format), frame_in_range(x)),
-                ),
-            ),
-        ),
-    )
-}
-
-// The smaller of two numbers.
-fn smaller(a: u32, b: u32) -> u32
-    ensures { result ≡ min a b }
-{
-    if a < b { a } else { b }
+    q.count <= fifo::capacity(f)
+        && queue::bytes::rest_is_zero(q)
+        && left <= limits::LEFT_MOST
+        && x.format <= limits::FORMAT_MOST
+        && left <= frame::frame_length(x.format)
+        && frame_in_range(x)
 }
 
 // Only the n lowest bits of x may be set.
@@ -51,8 +36,7 @@ fn within(x: u8, n: u32) -> bool
     requires { n ≤ 8 }
     ensures { result ≡ ltb x (2 ^ n) }
 {
-    let end = 1u32 << n;
-    (x as u32) < end
+    u32::from(x) < 1 << n
 }
 
 // In a character: P below its stop position, samples not yet taken zero.
@@ -63,27 +47,18 @@ fn character_in_range(v: Receiver) -> bool
     let position = v.position;
     let taken = sampling::samples_taken(position);
     let bits = frame::data_bits(format);
-    let parity = smaller(frame::parity_bits(format), frame::less(taken, bits));
-    both(
-        format <= limits::FORMAT_MOST,
-        both(
-            position < sampling::stop_position(format),
-            both(
-                within(v.samples, smaller(bits, taken)),
-                (v.parity as u32) <= parity,
-            ),
-        ),
-    )
+    let parity = frame::parity_bits(format).min(taken.saturating_sub(bits));
+    format <= limits::FORMAT_MOST
+        && position < sampling::stop_position(format)
+        && within(v.samples, bits.min(taken))
+        && u32::from(v.parity) <= parity
 }
 
 // Outside a character: nothing of one is kept.
 fn outside_in_range(v: Receiver) -> bool
     ensures { result ≡ every (outside_ranges v) }
 {
-    both(
-        v.format == 0,
-        both(v.position == 0, both(v.samples == 0, v.parity == 0)),
-    )
+    v.format == 0 && v.position == 0 && v.samples == 0 && v.parity == 0
 }
 
 // The receiver is idle, waits for mark, or is in a character.
@@ -122,17 +97,10 @@ pub fn receive_in_range(f: FifoControl, q: EntryQueue, v: Receiver, k: Errors) -
     ensures { result ≡ every (receive_ranges f q v k) }
 {
     let on = f.enabled == 1;
-    both(
-        q.count <= fifo::capacity(f),
-        both(
-            queue::entries::rest_is_zero(q),
-            both(
-                entries_in_range(q, on),
-                both(
-                    kept_in_range(k, on),
-                    both(v.phase <= device::CHARACTER, receiver_in_range(v)),
-                ),
-            ),
-        ),
-    )
+    q.count <= fifo::capacity(f)
+        && queue::entries::rest_is_zero(q)
+        && entries_in_range(q, on)
+        && kept_in_range(k, on)
+        && v.phase <= device::CHARACTER
+        && receiver_in_range(v)
 }

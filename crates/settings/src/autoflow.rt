@@ -7,30 +7,31 @@ use device::{FifoControl, Inputs, Latches, Registers, State};
 use sheet::bits;
 
 // Whether autoflow is on.
+#[tactic(auto, unfolding(device::specs::Autoflow::autoflow))]
 pub fn autoflow(r: Registers, f: FifoControl) -> bool
     ensures { result ≡ «autoflow-of» r f }
 {
-    flag::both(flag::has(r.mcr, bits::MCR_AFE), f.enabled == 1)
+    flag::has(r.mcr, bits::MCR_AFE) && f.enabled == 1
 }
 
 // Whether auto-RTS is on.
+#[tactic(auto, unfolding(device::specs::Autoflow::auto_rts))]
 pub fn auto_rts(r: Registers, f: FifoControl) -> bool
     ensures { result ≡ auto_rts r f }
 {
-    flag::both(autoflow(r, f), flag::has(r.mcr, bits::MCR_RTS))
+    autoflow(r, f) && flag::has(r.mcr, bits::MCR_RTS)
 }
 
 // Whether flow control holds the transmitter.
+#[tactic(auto, unfolding(device::specs::Autoflow::held))]
 pub fn held(r: Registers, f: FifoControl, i: Inputs) -> bool
     ensures { result ≡ «held_of» r f i }
 {
-    flag::both(
-        autoflow(r, f),
-        !flag::has(modem::effective_levels(r, i), bits::CTS),
-    )
+    autoflow(r, f) && !flag::has(modem::effective_levels(r, i), bits::CTS)
 }
 
 // The change bits as a step leaves them.
+#[tactic(auto, unfolding(device::specs::Autoflow::settled_changes))]
 pub fn settled_changes(r: Registers, f: FifoControl, changes: u8) -> u8
     ensures { result ≡ settled_changes r f changes }
 {
@@ -41,6 +42,7 @@ pub fn settled_changes(r: Registers, f: FifoControl, changes: u8) -> u8
 }
 
 // RTS hold as a step leaves it, with `count` characters received.
+#[tactic(auto, unfolding(device::specs::Autoflow::settled_hold))]
 pub fn settled_hold(r: Registers, f: FifoControl, count: u32, hold: u8) -> u8
     ensures { result ≡ settled_hold r f count hold }
 {
@@ -54,23 +56,24 @@ pub fn settled_hold(r: Registers, f: FifoControl, count: u32, hold: u8) -> u8
 }
 
 // The latches as a step leaves them, with `count` characters received.
+#[tactic(auto, unfolding(device::specs::Autoflow::settled_latches))]
 pub fn settle_latches(r: Registers, f: FifoControl, count: u32, l: Latches) -> Latches
     ensures { result ≡ settled_latches r f count l }
 {
-    let changes = settled_changes(r, f, l.changes);
-    let hold = settled_hold(r, f, count, l.hold);
-    let mut next = l;
-    next.changes = changes;
-    next.hold = hold;
-    next
+    Latches {
+        changes: settled_changes(r, f, l.changes),
+        hold: settled_hold(r, f, count, l.hold),
+        ..l
+    }
 }
 
 // The state as the rules that end every step leave it.
+#[tactic(auto, unfolding(device::specs::Autoflow::settled))]
 pub fn settle(s: State) -> State
     ensures { result ≡ settled s }
 {
-    let latches = settle_latches(s.registers, s.fifo, s.rx.count, s.latches);
-    let mut next = s;
-    next.latches = latches;
-    next
+    State {
+        latches: settle_latches(s.registers, s.fifo, s.rx.count, s.latches),
+        ..s
+    }
 }

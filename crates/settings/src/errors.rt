@@ -12,13 +12,12 @@ pub fn without_errors(e: Entry) -> Entry
 {
     Entry {
         byte: e.byte,
-        pe: 0,
-        fe: 0,
-        bi: 0,
+        ..queue::entries::none()
     }
 }
 
 // The entry of an arriving character: in character mode it has no errors of its own.
+#[tactic(auto, unfolding(device::specs::Lsr::entering))]
 pub fn entering(f: FifoControl, e: Entry) -> Entry
     ensures { result ≡ «entering-of» f e }
 {
@@ -36,6 +35,7 @@ pub fn set_if(test: bool, before: u8) -> u8
 }
 
 // The kept errors after a character arrived: in character mode it sets those that it has and clears none.
+#[tactic(auto, unfolding(device::specs::Lsr::kept_after))]
 pub fn kept_after(f: FifoControl, e: Entry, k: Errors) -> Errors
     ensures { result ≡ kept_after f e k }
 {

@@ -1,10 +1,12 @@
 // What the FIFO's settings mean.
 ghost use Rattle.std.specs.Prelude.{◌≡◌, ◌≤◌};
-ghost use Rattle.device.specs.Fifo.{capacity as «capacity-of», trigger_level, by_code};
+ghost use Rattle.device.specs.Fifo.{capacity as «capacity-of», trigger_level};
 
 use device::FifoControl;
+use sheet::limits;
 
 // The capacity of each queue: 1, 16 or 64.
+#[tactic(auto, unfolding(device::specs::Fifo::capacity))]
 pub fn capacity(f: FifoControl) -> u32
     ensures { (result ≡ «capacity-of» f) × (1 ≤ result) × (result ≤ 64) }
 {
@@ -14,26 +16,15 @@ pub fn capacity(f: FifoControl) -> u32
     if f.size == 1 { 64 } else { 16 }
 }
 
-// One of four by the trigger code.
-fn by_code(code: u8, a: u32, b: u32, c: u32, d: u32) -> u32
-    ensures { result ≡ by_code code a b c d }
-{
-    match code {
-        0 => a,
-        1 => b,
-        2 => c,
-        _ => d,
-    }
-}
-
 // The trigger level of the receive queue.
+#[tactic(auto, unfolding(device::specs::Fifo::trigger_level))]
 pub fn trigger_level(f: FifoControl) -> u32
     ensures { result ≡ trigger_level f }
 {
-    let code = f.trigger;
-    if f.size == 1 {
-        by_code(code, 1, 16, 32, 56)
+    let levels: [u32; 4] = if f.size == 1 {
+        [1, 16, 32, 56]
     } else {
-        by_code(code, 1, 4, 8, 14)
-    }
+        [1, 4, 8, 14]
+    };
+    levels[usize::from(f.trigger.min(limits::TRIGGER_MOST))]
 }

@@ -14,6 +14,7 @@ pub fn loopback(r: Registers) -> bool
 }
 
 // The effective levels of the modem inputs.
+#[tactic(auto, unfolding(device::specs::Modem::effective_levels))]
 pub fn effective_levels(r: Registers, i: Inputs) -> u8
     ensures { result ≡ effective_levels r i }
 {
@@ -34,22 +35,20 @@ fn moved(changes: u8, from: u8, to: u8, input: u8) -> bool
     requires { 0 < input }
     ensures { result ≡ (eqb (changes / input % 2) 1 || differ (eqb («from» / input % 2) 1) (eqb (to / input % 2) 1)) }
 {
-    flag::either(
-        flag::has(changes, input),
-        flag::differ(flag::has(from, input), flag::has(to, input)),
-    )
+    flag::has(changes, input) || flag::has(from, input) != flag::has(to, input)
 }
 
 // The change bits where the effective levels go from one to the other; RI's is set on its trailing
 // edge only.
+#[tactic(auto, unfolding(device::specs::Modem::changes_after))]
 pub fn changes_after(changes: u8, from: u8, to: u8) -> u8
     ensures { (result ≡ changes_after changes «from» to) × (result < 16) }
 {
-    let ring = flag::both(flag::has(from, bits::RI), !flag::has(to, bits::RI));
+    let ring = flag::has(from, bits::RI) && !flag::has(to, bits::RI);
     flag::nibble(
         moved(changes, from, to, bits::CTS),
         moved(changes, from, to, bits::DSR),
-        flag::either(flag::has(changes, bits::RI), ring),
+        flag::has(changes, bits::RI) || ring,
         moved(changes, from, to, bits::DCD),
     )
 }

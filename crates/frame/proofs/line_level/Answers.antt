@@ -16,5 +16,5 @@ pub returns : goal.returns
 returns c =
     let a = c.args in
     let levels : ℕ → ℕ = λ n. get_or (frame_levels a.byte a.format) n 1 in
-    let place = c.less.ensures ∙ ap (λ (n : ℕ). n - a.left) c.frame_length.ensures.value in
+    let place = c.saturating_sub.ensures ∙ ap (λ (n : ℕ). n - a.left) c.frame_length.ensures.value in
     (c.frame_level.ensures.0 ∙ ap levels place ∙ sym (line-place a.left a.byte a.format c.if-left-eq0.false), c.frame_level.ensures.1)

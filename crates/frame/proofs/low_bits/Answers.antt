@@ -26,7 +26,8 @@ overflow_add-result c = let n = c.data_bits-n in record { fits = omega (arith, p
 pub overflow_add-result-then-has-2 : goal.overflow_add-result-then-has-2
 overflow_add-result-then-has-2 c =
     let n = c.data_bits-n in
-    record { fits = omega (arith, power_bounds n.result n.ensures.1, parity_bounds c.parity_bit.result n.result n.ensures.1) }
+    rw c.from-then-has.ensures
+    (record { fits = omega (arith, power_bounds n.result n.ensures.1, parity_bounds c.parity_bit.result n.result n.ensures.1) })
 
 pub returns-then-has : goal.returns-then-has
 returns-then-has c =
@@ -38,7 +39,7 @@ returns-then-has c =
     let small = power_bounds n.result n.ensures.1 in
     let small-parity = parity_bounds p.result n.result n.ensures.1 in
     let low = low_frame_parity a.byte a.format n.result k.result p.result n.ensures.0 k.ensures p.ensures.0 one in
-    (omega arith, omega arith)
+    rw c.from-then-has.ensures (omega arith, omega arith)
 
 pub overflow_mul-result-2 : goal.overflow_mul-result-2
 overflow_mul-result-2 c = let n = c.data_bits-n in record { fits = omega (arith, power_bounds n.result n.ensures.1) }

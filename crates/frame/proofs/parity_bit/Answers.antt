@@ -5,6 +5,7 @@ use Prim.Native.Nat.{ℕ, ◌-◌, ◌%◌}
 use native.Mathlib.Omega.{arith}
 use lib.Count.{ones}
 use Rattle.flag.specs.Flag.{bit_of}
+use Rattle.flag.proofs.Laws.{from_test, bit_small}
 use Rattle.frame.proofs.Parity.{parity-even, parity-odd, parity-stick}
 use Rattle.frame.proofs.parity_bit.Goals as goal
 
@@ -12,7 +13,8 @@ pub returns-then-has : goal.returns-then-has
 returns-then-has c =
     let even = c.has-even.ensures in
     let stick = sym c.has.ensures ∙ c.if-has.true in
-    (c.bit.ensures.0 ∙ ap (λ (b : Bool). bit_of (not b)) even ∙ sym (parity-stick _ _ stick), c.bit.ensures.1)
+    let bit = c.from.ensures ∙ from_test (not c.has-even.result) in
+    (bit ∙ ap (λ (b : Bool). bit_of (not b)) even ∙ sym (parity-stick _ _ stick), rw bit (bit_small (not c.has-even.result)))
 
 pub returns-then-even : goal.returns-then-even
 returns-then-even c =

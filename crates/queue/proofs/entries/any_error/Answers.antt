@@ -1,19 +1,19 @@
--- The search of all that are queued is that of those seen and that of those from `i` on, and in the end that of those seen.
-use mathlib.Core.Path.{refl}
+-- The search of all that are queued is that of those seen and that of those from the index on, and in the end that of those seen.
+use Prim.Native.Nat.{◌<◌}
+use lib.Seq.{get_or-take}
 use native.Mathlib.Omega.{arith}
-use borrow.Author.Rules.{rules}
 use Rattle.queue.specs.Queue.{entry_errors, no_entry}
-use Rattle.queue.proofs.Laws.{length_mapped, find_turns, find_ends}
+use Rattle.queue.proofs.Laws.{find_turns, find_ends}
 use Rattle.queue.proofs.entries.any_error.Goals as goal
 
-pub loop-i-init : goal.loop-i-init
-loop-i-init c = (c.places_in_use-n.ensures, record { long = search (length_mapped, rules); same = refl })
-
-pub loop-i-preserved : goal.loop-i-preserved
-loop-i-preserved c =
-    let w = c.loop-i.invariant in
-    (w.0, rw (c.either-error.ensures, c.any_set.ensures, c.errors_of.ensures) (find_turns no_entry w.1 (omega (arith, w.0))))
+pub loop-e-preserved : goal.loop-e-preserved
+loop-e-preserved c =
+    let w = c.loop-e.invariant in
+    let i = c.loop-e.e-index in
+    let k : i < c.min-n.result = omega arith in
+    let same = get_or-take c.min-n.result c.args.q.entries i no_entry k in
+    (w.0, rw (c.any_set-error.ensures, c.errors_of.ensures, same) (find_turns no_entry w.1 (omega (arith, w.0))))
 
 pub returns : goal.returns
 unfolding entry_errors
-returns c = find_ends c.loop-i.invariant.1 (omega (arith, c.loop-i.invariant.0))
+returns c = find_ends c.loop-e.invariant.1 (omega (arith, c.loop-e.invariant.0))

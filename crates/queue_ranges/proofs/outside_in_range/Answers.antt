@@ -1,6 +1,0 @@
--- The tests are the definition's, in its order.
-use mathlib.Core.Bool.{and-true}
-use Rattle.queue_ranges.proofs.outside_in_range.Goals as goal
-
-pub returns : goal.returns
-returns c = simp and-true cc

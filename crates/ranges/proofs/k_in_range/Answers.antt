@@ -1,9 +1,0 @@
--- One return for each way of the definition.
-use borrow.Author.Tests.{eq-eqb, ne_eqb}
-use Rattle.ranges.proofs.k_in_range.Goals as goal
-
-pub returns-then-b-eq0 : goal.returns-then-b-eq0
-returns-then-b-eq0 c = simp (eq-eqb _ _ c.if-b-eq0.true)
-
-pub returns : goal.returns
-returns c = simp (ne_eqb _ _ c.if-b-eq0.false, c.both.ensures)
