@@ -3,8 +3,8 @@
 // The contracts cite `specs/Flag.antt`, which every crate above uses.
 #![tactic(auto)]
 
-ghost use Rattle.std.specs.Prelude.{◌≡◌, ◌&&◌, ◌||◌, [], ◌∷◌, ◌<◌, ◌/◌, ◌%◌, eqb};
-ghost use Rattle.flag.specs.Flag.{bit_of, byte_of, differ as «Differ-of», implies as «implies-of»};
+ghost use Rattle.std.specs.Prelude.{◌≡◌, [], ◌∷◌, ◌<◌, ◌/◌, ◌%◌, eqb};
+ghost use Rattle.flag.specs.Flag.{byte_of};
 
 // Whether the bit of x that the power of two `mask` names is set.
 pub fn has(x: u8, mask: u8) -> bool
@@ -12,41 +12,6 @@ pub fn has(x: u8, mask: u8) -> bool
     ensures { result ≡ eqb (x / mask % 2) 1 }
 {
     x / mask % 2 == 1
-}
-
-// Both tests hold.
-pub fn both(a: bool, b: bool) -> bool
-    ensures { result ≡ (a && b) }
-{
-    if a { b } else { false }
-}
-
-// One of the tests holds, or both.
-pub fn either(a: bool, b: bool) -> bool
-    ensures { result ≡ (a || b) }
-{
-    if a { true } else { b }
-}
-
-// Where a holds, b does.
-pub fn implies(a: bool, b: bool) -> bool
-    ensures { result ≡ «implies-of» a b }
-{
-    if a { b } else { true }
-}
-
-// One of the tests holds, and not both.
-pub fn differ(a: bool, b: bool) -> bool
-    ensures { result ≡ «Differ-of» a b }
-{
-    if a { !b } else { b }
-}
-
-// 1 where the test holds, else 0.
-pub fn bit(a: bool) -> u8
-    ensures { (result ≡ bit_of a) × (result < 2) }
-{
-    if a { 1 } else { 0 }
 }
 
 // The number with these four bits, bit 0 first.

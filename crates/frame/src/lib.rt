@@ -102,16 +102,6 @@ pub fn low_bits(byte: u8, format: u8) -> u32
     1 + 2 * low
 }
 
-// a less b, or 0 where b is larger.
-pub fn less(a: u32, b: u32) -> u32
-    ensures { result ≡ a - b }
-{
-    if b <= a {
-        return a - b;
-    }
-    0
-}
-
 // The transmitter's line with `left` pulses left of the frame of this byte.
 pub fn line_level(left: u32, byte: u8, format: u8) -> u8
     ensures { (result ≡ line_level left byte format) × (result < 2) }

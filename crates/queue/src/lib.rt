@@ -3,7 +3,9 @@
 // Each is a struct by value: an array of 64 places and the count in use, oldest at index 0, places
 // beyond the count zero. The contracts cite `specs/Queue.antt`; `proofs/Contents.antt` has the facts
 // about what is queued, over lists, once for both. The tests of every place have no early way out, so
-// that the compiler can look at many places at once.
+// that the compiler can look at many places at once. `clear`, `put`, `take` and the test of the rest stand
+// once for each queue: the C interface names the fields of both structs, and a generic struct can have no
+// array of its parameter.
 #![tactic(auto)]
 
 pub mod bytes;
