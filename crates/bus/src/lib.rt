@@ -17,6 +17,7 @@ use registers::{divisor, ier, lcr, mcr, msr, scr};
 use sheet::bits;
 
 // The byte that a register read answers.
+#[tactic(auto, unfolding(device::specs::Calls::read_register, device::specs::Lsr::lsr_read))]
 pub fn value(s: State, address: u8) -> u8
     requires { Readable s }
     ensures { result ≡ (read_register s address).byte }
@@ -40,6 +41,7 @@ pub fn value(s: State, address: u8) -> u8
 }
 
 // Whether a register read may change the state.
+#[tactic(auto, unfolding(device::specs::Calls::read_register))]
 pub fn read_changes(s: State, address: u8) -> bool
     ensures { result ≡ false → (read_register s address).state ≡ s }
 {
@@ -57,23 +59,18 @@ pub fn read_changes(s: State, address: u8) -> bool
 pub fn takes(s: State, address: u8) -> bool
     ensures { result ≡ (eqb address 0 && (not (divisor_access s.registers) && ltb 0 s.rx.count)) }
 {
-    flag::both(
-        address == bits::RBR,
-        flag::both(!lcr::divisor_access(s.registers), 0 < s.rx.count),
-    )
+    address == bits::RBR && !lcr::divisor_access(s.registers) && 0 < s.rx.count
 }
 
 // Whether a register write reaches a queue.
 pub fn reaches_queue(s: State, address: u8) -> bool
     ensures { result ≡ «reaches-queue» s address }
 {
-    if address == bits::THR {
-        return !lcr::divisor_access(s.registers);
-    }
-    address == bits::FCR
+    address == bits::FCR || address == bits::THR && !lcr::divisor_access(s.registers)
 }
 
 // The state after a register read.
+#[tactic(auto, unfolding(device::specs::Calls::read_register))]
 pub fn after_read(s: State, address: u8) -> State
     ensures { result ≡ (read_register s address).state }
 {
@@ -88,6 +85,7 @@ pub fn after_read(s: State, address: u8) -> State
 }
 
 // A write that reaches a queue, THR or FCR: the state after it.
+#[tactic(auto, unfolding(device::specs::Calls::write_register))]
 pub fn write_queue(s: State, address: u8, byte: u8) -> State
     requires { «reaches-queue» s address ≡ true }
     ensures { result ≡ write_register s address byte }
@@ -99,6 +97,7 @@ pub fn write_queue(s: State, address: u8, byte: u8) -> State
 }
 
 // A write that reaches no queue: the numbers after it. Writes to LSR and MSR do nothing.
+#[tactic(auto, unfolding(device::specs::Calls::write_register))]
 pub fn write_numbers(s: State, address: u8, byte: u8) -> Numbers
     requires { «reaches-queue» s address ≡ false }
     ensures { result ≡ numbers_of (write_register s address byte) }
@@ -112,8 +111,7 @@ pub fn write_numbers(s: State, address: u8, byte: u8) -> Numbers
         },
         bits::LCR => lcr::write(s, byte),
         bits::MCR => mcr::write(s, byte),
-        bits::LSR => registers::numbers_of(s),
-        bits::MSR => registers::numbers_of(s),
+        bits::LSR | bits::MSR => registers::numbers_of(s),
         _ => scr::write(s, byte),
     }
 }

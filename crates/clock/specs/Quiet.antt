@@ -1,6 +1,6 @@
 -- The quiet pulse: no byte is loaded and no character ends. It changes numbers alone, and
 -- leaves the queues where they are. What these definitions say of a pulse is proved against `Tick.antt`.
-use Rattle.std.specs.Prelude.{ℕ, ◌+◌, ◌%◌, Bool, true, false, cond, not, ◌&&◌, eqb}
+use Rattle.std.specs.Prelude.{ℕ, ◌+◌, ◌%◌, Bool, false, cond, not, ◌&&◌, eqb, Option, Some, None}
 use Rattle.device.specs.declared.Frame.{Frame}
 use Rattle.device.specs.declared.Receiver.{Receiver}
 use Rattle.device.specs.declared.Latches.{Latches}
@@ -42,17 +42,13 @@ steady looped left sin v =
 unfoldable pub stepped : Receiver → Receiver
 stepped v = cond (eqb v.phase character_phase) (at_position (v.position + 1) v) v
 
--- the pulse is not quiet
-abbrev pub busy : Frame → Receiver → Latches → QuietPulse
-busy x v l = record { quiet = false; frame = x; receiver = v; latches = l }
-
--- what a quiet pulse leaves
-unfoldable pub quiet_of : Setting → Frame → Receiver → Latches → QuietPulse
+-- what a quiet pulse leaves; none where a byte is loaded or a character ends
+unfoldable pub quiet_of : Setting → Frame → Receiver → Latches → Option QuietPulse
 quiet_of c x v l =
     let y = shifted_out x in
     let r = receiver_pulse (cond c.loopback (line y) c.sin) c.lcr v in
     cond (eqb y.left 0 && c.ready)
-    (busy x v l)
+    None
     (cond r.ended
-    (busy x v l)
-    (record { quiet = true; frame = y; receiver = r.receiver; latches = cond c.counts (counted c.limit l) l }))
+    None
+    (Some (record { frame = y; receiver = r.receiver; latches = cond c.counts (counted c.limit l) l })))

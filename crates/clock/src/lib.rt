@@ -10,7 +10,6 @@ ghost use Rattle.std.specs.Prelude.{◌≡◌, true};
 ghost use Rattle.device.specs.State.{with_k};
 ghost use Rattle.device.specs.Calls.{ticks_of};
 ghost use Rattle.device.specs.Ranges.{well_formed};
-ghost use Rattle.clock.specs.Quiet.{assembled};
 
 use device::{Frame, Latches, Receiver, State};
 
@@ -25,37 +24,21 @@ pub struct Setting {
     pub limit: u32,
 }
 
-// What a quiet pulse leaves, or the parts as they were where the pulse is not quiet.
+// What a quiet pulse leaves.
 #[derive(Clone, Copy)]
 pub struct QuietPulse {
-    pub quiet: bool,
     pub frame: Frame,
     pub receiver: Receiver,
     pub latches: Latches,
-}
-
-// The state with these numbers in place of its own.
-fn assemble(s: State, k: u32, x: Frame, v: Receiver, l: Latches) -> State
-    ensures { result ≡ assembled s k x v l }
-{
-    let mut b = s.baud;
-    b.k = k;
-    let mut next = s;
-    next.baud = b;
-    next.frame = x;
-    next.receiver = v;
-    next.latches = l;
-    next
 }
 
 // The state with so many ticks to the next pulse.
 fn with_k(s: State, k: u32) -> State
     ensures { result ≡ with_k s k }
 {
-    let x = s.frame;
-    let v = s.receiver;
-    let l = s.latches;
-    assemble(s, k, x, v, l)
+    let mut next = s;
+    next.baud.k = k;
+    next
 }
 
 // The state n ticks later.

@@ -13,15 +13,14 @@ use settings::{autoflow, errors, fifo, modem};
 
 // n pulses of the state with another k, from event to event: the quiet ones before it at once, then
 // the one in which it happens, transmitter, receiver, idle count and the rules that end a step. Each
-// stores what it changes where it stands; a call that hands a state on would copy it.
+// stores what it changes where it stands; a call that hands a state on would copy it. (`&` takes both
+// tests, without a way out that the loop and its proof would have to join again.)
 pub fn pulses(s: State, k: u32, n: u32) -> State
     requires { well_formed (with_k s k) ≡ true }
     ensures { result ≡ pulses_of n (with_k s k) }
 {
-    let mut b = s.baud;
-    b.k = k;
     let mut t = s;
-    t.baud = b;
+    t.baud.k = k;
     let mut left = n;
     while 0 < left {
         let r = t.registers;
@@ -39,7 +38,8 @@ pub fn pulses(s: State, k: u32, n: u32) -> State
         }
         let x = transmitter::shift_out(before);
         t.frame = x;
-        if flag::both(x.left == 0, transmitter::ready(t.tx.count, r, f, i)) {
+        let loads = (x.left == 0) & transmitter::ready(t.tx.count, r, f, i);
+        if loads {
             let q = t.tx;
             t.frame = transmitter::next_frame(q, r.lcr);
             t.latches = transmitter::emptied(q.count, t.latches);
@@ -56,7 +56,7 @@ pub fn pulses(s: State, k: u32, n: u32) -> State
             t.rx = queue::entries::put(q, fifo::capacity(f), errors::entering(f, e));
             t.kept = errors::kept_after(f, e, t.kept);
         }
-        let entered = flag::both(h.ended, !full);
+        let entered = h.ended & !full;
         let l = idle::later(f, t.rx.count, r.lcr, entered, t.latches);
         t.latches = autoflow::settle_latches(r, f, t.rx.count, l);
         left -= 1;

@@ -3,7 +3,7 @@ ghost use Rattle.std.specs.Prelude.{◌≡◌, ◌≤◌, cond};
 ghost use Rattle.device.specs.Idle.{counted};
 ghost use Rattle.receiver.specs.Needs.{Placed};
 ghost use Rattle.clock.specs.Needs.{Quieting};
-ghost use Rattle.clock.specs.Quiet.{setting_of, steady as «steady-of», stepped, busy as «busy-of», quiet_of};
+ghost use Rattle.clock.specs.Quiet.{setting_of, steady as «steady-of», stepped, quiet_of};
 
 use crate::{QuietPulse, Setting};
 use device::{CHARACTER, Frame, IDLE, Latches, Receiver, State};
@@ -11,37 +11,24 @@ use line::{idle, transmitter};
 use settings::modem;
 
 // What the pulses until the next event look at.
+#[tactic(auto, unfolding(crate::specs::Quiet::setting_of, device::specs::Transmitter::ready))]
 pub fn setting(s: State) -> Setting
     ensures { result ≡ setting_of s }
 {
-    let r = s.registers;
-    let f = s.fifo;
-    let i = s.inputs;
     Setting {
-        lcr: r.lcr,
-        sin: i.sin,
-        loopback: modem::loopback(r),
-        ready: transmitter::ready(s.tx.count, r, f, i),
-        counts: idle::counts(f, s.rx.count),
-        limit: idle::limit(r.lcr),
-    }
-}
-
-// The pulse is not quiet.
-fn busy(x: Frame, v: Receiver, l: Latches) -> QuietPulse
-    ensures { result ≡ «busy-of» x v l }
-{
-    QuietPulse {
-        quiet: false,
-        frame: x,
-        receiver: v,
-        latches: l,
+        lcr: s.registers.lcr,
+        sin: s.inputs.sin,
+        loopback: modem::loopback(s.registers),
+        ready: transmitter::ready(s.tx.count, s.registers, s.fifo, s.inputs),
+        counts: idle::counts(s.fifo, s.rx.count),
+        limit: idle::limit(s.registers.lcr),
     }
 }
 
 // Whether the pulse only steps on, with so many pulses left of the frame: between two samples of a
 // character, or idle on a line that is high because nothing is sent, or because SIN is. No level is
 // computed for it.
+#[tactic(auto, unfolding(crate::specs::Quiet::steady))]
 fn steady(loopback: bool, left: u32, sin: u8, v: Receiver) -> bool
     requires { Placed v }
     ensures { result ≡ «steady-of» loopback left sin v }
@@ -59,6 +46,7 @@ fn steady(loopback: bool, left: u32, sin: u8, v: Receiver) -> bool
 }
 
 // The receiver after such a pulse: in a character at the next position, else as it was.
+#[tactic(auto, unfolding(crate::specs::Quiet::stepped))]
 fn step(v: Receiver) -> Receiver
     requires { Placed v }
     ensures { result ≡ stepped v }
@@ -80,33 +68,30 @@ fn later(c: Setting, l: Latches) -> Latches
     l
 }
 
-// What a quiet pulse leaves.
-pub fn quiet_pulse(c: Setting, x: Frame, v: Receiver, l: Latches) -> QuietPulse
+// What a quiet pulse leaves; none where the pulse is not quiet.
+#[tactic(auto, using(crate::proofs::Quieted::steady_receives), unfolding(crate::specs::Quiet::quiet_of))]
+pub fn quiet_pulse(c: Setting, x: Frame, v: Receiver, l: Latches) -> Option<QuietPulse>
     requires { Quieting c x v l }
     ensures { result ≡ quiet_of c x v l }
 {
     let next = transmitter::shift_out(x);
-    if flag::both(next.left == 0, c.ready) {
-        return busy(x, v, l);
+    if next.left == 0 && c.ready {
+        return None;
     }
     if steady(c.loopback, next.left, c.sin, v) {
-        let stepped = step(v);
-        return QuietPulse {
-            quiet: true,
+        return Some(QuietPulse {
             frame: next,
-            receiver: stepped,
+            receiver: step(v),
             latches: later(c, l),
-        };
+        });
     }
     let r = receiver::listen(c.loopback, next, c.sin, c.lcr, v);
     if r.ended {
-        return busy(x, v, l);
+        return None;
     }
-    let heard = r.receiver;
-    QuietPulse {
-        quiet: true,
+    Some(QuietPulse {
         frame: next,
-        receiver: heard,
+        receiver: r.receiver,
         latches: later(c, l),
-    }
+    })
 }

@@ -49,10 +49,10 @@ pub struct Inputs {
 pub fn with_inputs(s: State, modem: u8, sin: u8) -> State
     ensures { result ≡ with_inputs s (record { modem = modem; sin = sin }) }
 {
-    let i = Inputs { modem, sin };
-    let mut next = s;
-    next.inputs = i;
-    next
+    State {
+        inputs: Inputs { modem, sin },
+        ..s
+    }
 }
 
 // The transmitter shift register: L, the pulses left of the frame now sent, with its byte and
@@ -101,9 +101,7 @@ pub struct Latches {
 pub fn with_empty(l: Latches, empty: u8) -> Latches
     ensures { result ≡ with_empty l empty }
 {
-    let mut next = l;
-    next.empty = empty;
-    next
+    Latches { empty, ..l }
 }
 
 // The whole device. In character mode PE, FE and BI are kept apart from the byte, until LSR is read.
@@ -122,7 +120,9 @@ pub struct State {
     pub kept: Errors,
 }
 
-// The fresh state.
+// The fresh state. Its zeros are literals: a derived Default promises each field apart, and each of its
+// uses would need a lemma.
+#[tactic(auto, unfolding(crate::specs::State::fresh_of))]
 pub fn fresh() -> State
     ensures { result ≡ fresh_of }
 {
@@ -168,20 +168,18 @@ pub fn fresh() -> State
 }
 
 // The state after reset: fresh, but SCR, the divisor and the input pins stay, and k is the divisor.
+#[tactic(auto, unfolding(crate::specs::State::reset_state))]
 pub fn reset(s: State) -> State
     ensures { result ≡ reset_state s }
 {
     let divisor = s.baud.divisor;
-    let baud = Baud {
+    let mut next = fresh();
+    next.registers.scr = s.registers.scr;
+    next.baud = Baud {
         divisor,
         k: divisor,
     };
-    let inputs = s.inputs;
-    let scr = s.registers.scr;
-    let mut next = fresh();
-    next.registers.scr = scr;
-    next.baud = baud;
-    next.inputs = inputs;
+    next.inputs = s.inputs;
     next
 }
 

@@ -16,37 +16,39 @@ fn size_after(lcr: u8, size: u8, b: u8) -> u8
     if !flag::has(lcr, bits::LCR_DLAB) {
         return size;
     }
-    flag::bit(flag::has(b, bits::FCR_64BYTE))
+    u8::from(flag::has(b, bits::FCR_64BYTE))
 }
 
 // The settings after a write.
+#[tactic(auto, unfolding(device::specs::Fcr::fifo_after))]
 fn fifo_after(r: Registers, f: FifoControl, b: u8) -> FifoControl
     ensures { result ≡ fifo_after r f b }
 {
-    let mut next = f;
     if !flag::has(b, bits::FCR_ENABLE_FIFO) {
-        next.enabled = 0;
-        return next;
+        return FifoControl { enabled: 0, ..f };
     }
-    next.enabled = 1;
-    next.size = size_after(r.lcr, f.size, b);
-    next.dma = flag::bit(flag::has(b, bits::FCR_DMA_SELECT));
-    next.trigger = b / bits::FCR_TRIGGER;
-    next
+    FifoControl {
+        enabled: 1,
+        size: size_after(r.lcr, f.size, b),
+        dma: u8::from(flag::has(b, bits::FCR_DMA_SELECT)),
+        trigger: b / bits::FCR_TRIGGER,
+    }
 }
 
 // Whether FIFO on/off changes, which clears the kept errors.
+#[tactic(auto, unfolding(device::specs::Fcr::turned))]
 fn turned(f: FifoControl, g: FifoControl) -> bool
     ensures { result ≡ «turned-of» f g }
 {
-    flag::differ(f.enabled == 1, g.enabled == 1)
+    (f.enabled == 1) != (g.enabled == 1)
 }
 
 // Whether FIFO on/off or the size changes, which clears both queues.
+#[tactic(auto, unfolding(device::specs::Fcr::switched))]
 fn switched(f: FifoControl, g: FifoControl) -> bool
     ensures { result ≡ «switched-of» f g }
 {
-    flag::either(turned(f, g), flag::differ(f.size == 1, g.size == 1))
+    turned(f, g) || (f.size == 1) != (g.size == 1)
 }
 
 // Whether a write clears the queue whose bit `clear` is: its bit with FIFO on, or both are cleared.
@@ -54,27 +56,26 @@ fn clears(both: bool, b: u8, clear: u8) -> bool
     requires { 0 < clear }
     ensures { result ≡ (both || (bit 0 b && eqb (b / clear % 2) 1)) }
 {
-    flag::either(
-        both,
-        flag::both(flag::has(b, bits::FCR_ENABLE_FIFO), flag::has(b, clear)),
-    )
+    both || flag::has(b, bits::FCR_ENABLE_FIFO) && flag::has(b, clear)
 }
 
 // The receive queue cleared where a test says so, with its time-out latch and idle count.
+#[tactic(auto, unfolding(device::specs::Fcr::clear_receive))]
 fn receive_after(s: State, clear: bool) -> State
     ensures { result ≡ cond clear (clear_receive s) s }
 {
     if !clear {
         return s;
     }
-    let latches = rbr::restart_idle(s.latches);
-    let mut next = s;
-    next.rx = queue::entries::clear();
-    next.latches = latches;
-    next
+    State {
+        rx: queue::entries::clear(),
+        latches: rbr::restart_idle(s.latches),
+        ..s
+    }
 }
 
 // The transmit queue cleared where a test says so, which sets its latch where bytes were queued.
+#[tactic(auto, unfolding(device::specs::Fcr::clear_transmit))]
 fn transmit_after(s: State, clear: bool) -> State
     ensures { result ≡ cond clear (clear_transmit s) s }
 {
@@ -102,6 +103,7 @@ fn kept_after(k: Errors, clear: bool) -> Errors
 }
 
 // The settings, then what is cleared.
+#[tactic(auto, unfolding(device::specs::Fcr::fcr_write))]
 pub fn write(s: State, b: u8) -> State
     ensures { result ≡ fcr_write s b }
 {
@@ -110,8 +112,6 @@ pub fn write(s: State, b: u8) -> State
     let receive = clears(both, b, bits::FCR_CLEAR_RCVR);
     let transmit = clears(both, b, bits::FCR_CLEAR_XMIT);
     let kept = kept_after(s.kept, turned(s.fifo, f));
-    let mut next = s;
-    next.fifo = f;
-    next.kept = kept;
+    let next = State { fifo: f, kept, ..s };
     transmit_after(receive_after(next, receive), transmit)
 }

@@ -9,6 +9,7 @@ use queue::{EntryQueue, Errors};
 use settings::errors;
 
 // The errors that show: with FIFO on those of the oldest entry, in character mode the kept ones.
+#[tactic(auto, unfolding(device::specs::Lsr::shown_errors))]
 pub fn shown_errors(s: State) -> Errors
     ensures { result ≡ shown_errors s }
 {
@@ -26,24 +27,25 @@ pub fn shows_error(s: State) -> bool
 }
 
 // The register, its lower and its upper four bits.
+#[tactic(auto, unfolding(device::specs::Lsr::lsr, device::specs::Lsr::temt))]
 pub fn value(s: State) -> u8
     ensures { result ≡ «lsr-of» s }
 {
     let e = shown_errors(s);
-    let idle = flag::both(s.tx.count == 0, s.frame.left == 0);
-    let error = flag::both(s.fifo.enabled == 1, queue::entries::any_error(s.rx));
+    let idle = s.tx.count == 0 && s.frame.left == 0;
+    let error = s.fifo.enabled == 1 && queue::entries::any_error(s.rx);
     let low = flag::nibble(0 < s.rx.count, s.latches.overrun == 1, e.pe == 1, e.fe == 1);
     let high = flag::nibble(e.bi == 1, s.tx.count == 0, idle, error);
     low + 16 * high
 }
 
 // The queue with its oldest entry's errors cleared.
+#[tactic(auto, unfolding(device::specs::Lsr::clear_errors))]
 fn clear_errors(q: EntryQueue) -> EntryQueue
     ensures { result ≡ clear_errors q }
 {
-    let clean = errors::without_errors(rbr::oldest(q));
     let mut next = q;
-    next.entries[0] = clean;
+    next.entries[0] = errors::without_errors(rbr::oldest(q));
     next
 }
 
@@ -55,27 +57,23 @@ fn none_of(e: Errors) -> bool
 }
 
 // Whether a read changes the state.
+#[tactic(auto, using(crate::proofs::Laws::lsr_kept))]
 pub fn read_changes(s: State) -> bool
     ensures { result ≡ false → (lsr_read s).state ≡ s }
 {
-    if s.latches.overrun != 0 {
-        return true;
-    }
-    if !none_of(queue::entries::errors_of(rbr::oldest(s.rx))) {
-        return true;
-    }
-    !none_of(s.kept)
+    s.latches.overrun != 0
+        || !none_of(queue::entries::errors_of(rbr::oldest(s.rx)))
+        || !none_of(s.kept)
 }
 
 // After a read: OE, the oldest entry's errors and the kept ones are cleared.
+#[tactic(auto, unfolding(device::specs::Lsr::lsr_read))]
 pub fn after_read(s: State) -> State
     ensures { result ≡ (lsr_read s).state }
 {
-    let rx = clear_errors(s.rx);
-    let kept = queue::entries::no_errors();
     let mut next = s;
-    next.rx = rx;
+    next.rx = clear_errors(s.rx);
     next.latches.overrun = 0;
-    next.kept = kept;
+    next.kept = queue::entries::no_errors();
     next
 }

@@ -16,24 +16,26 @@ pub fn oldest(q: EntryQueue) -> Entry
 pub fn restart_idle(l: Latches) -> Latches
     ensures { result ≡ restart_idle l }
 {
-    let mut next = l;
-    next.timeout = 0;
-    next.idle = 0;
-    next
+    Latches {
+        timeout: 0,
+        idle: 0,
+        ..l
+    }
 }
 
 // The oldest byte; 0 where none is queued.
+#[tactic(auto, unfolding(device::specs::Rbr::rbr_read))]
 pub fn value(s: State) -> u8
     ensures { result ≡ (rbr_read s).byte }
 {
     if s.rx.count == 0 {
         return 0;
     }
-    let e = oldest(s.rx);
-    e.byte
+    oldest(s.rx).byte
 }
 
 // Whether a read changes the state.
+#[tactic(auto, unfolding(device::specs::Rbr::rbr_read))]
 pub fn read_changes(s: State) -> bool
     ensures { result ≡ false → (rbr_read s).state ≡ s }
 {
@@ -48,6 +50,7 @@ pub struct Taken {
 }
 
 // The oldest byte is removed; time-out latch and idle count go to 0.
+#[tactic(auto, unfolding(device::specs::Rbr::rbr_read))]
 pub fn take(s: State) -> Taken
     requires { 0 < s.rx.count }
     ensures { result ≡ record { rx = (rbr_read s).state.rx; latches = (rbr_read s).state.latches } }
@@ -59,17 +62,17 @@ pub fn take(s: State) -> Taken
 }
 
 // The state after a read.
+#[tactic(auto, unfolding(device::specs::Rbr::rbr_read))]
 pub fn after_read(s: State) -> State
     ensures { result ≡ (rbr_read s).state }
 {
     if s.rx.count == 0 {
         return s;
     }
-    let r = take(s);
-    let rx = r.rx;
-    let latches = r.latches;
-    let mut next = s;
-    next.rx = rx;
-    next.latches = latches;
-    next
+    let taken = take(s);
+    State {
+        rx: taken.rx,
+        latches: taken.latches,
+        ..s
+    }
 }

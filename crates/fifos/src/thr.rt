@@ -13,6 +13,7 @@ pub struct Queued {
 }
 
 // The byte is put into the transmit queue; the transmit-empty latch goes to 0.
+#[tactic(auto, unfolding(device::specs::Thr::thr_write))]
 pub fn put(s: State, b: u8) -> Queued
     ensures { result ≡ record { tx = (thr_write s b).tx; latches = (thr_write s b).latches } }
 {
@@ -23,14 +24,14 @@ pub fn put(s: State, b: u8) -> Queued
 }
 
 // The state after a write.
+#[tactic(auto, unfolding(device::specs::Thr::thr_write))]
 pub fn write(s: State, b: u8) -> State
     ensures { result ≡ thr_write s b }
 {
-    let p = put(s, b);
-    let tx = p.tx;
-    let latches = p.latches;
-    let mut next = s;
-    next.tx = tx;
-    next.latches = latches;
-    next
+    let queued = put(s, b);
+    State {
+        tx: queued.tx,
+        latches: queued.latches,
+        ..s
+    }
 }

@@ -14,21 +14,18 @@ use device::State;
 use settings::autoflow;
 use sheet::{answer, limits};
 
-// The number that the forecast answers: 4 where work is left and there is no clock, 5 where bytes
+// The number that the forecast answers, as the C interface has it: 4 where work is left and there is no clock, 5 where bytes
 // are queued and held back, else 0.
+#[tactic(auto, unfolding(device::specs::Forecast::forecast_number, device::specs::Forecast::no_clock, device::specs::Forecast::held_back))]
 pub fn number(s: State) -> u8
     requires { well_formed s ≡ true }
     ensures { result ≡ forecast_number s }
 {
-    let count = s.tx.count;
-    let work = flag::either(0 < s.frame.left, 0 < count);
-    if flag::both(work, s.baud.divisor == 0) {
+    let queued = 0 < s.tx.count;
+    if (0 < s.frame.left || queued) && s.baud.divisor == 0 {
         return answer::NO_CLOCK;
     }
-    let r = s.registers;
-    let f = s.fifo;
-    let i = s.inputs;
-    if flag::both(0 < count, autoflow::held(r, f, i)) {
+    if queued && autoflow::held(s.registers, s.fifo, s.inputs) {
         return answer::HELD_BACK;
     }
     answer::DONE
@@ -57,14 +54,13 @@ pub fn level_after(s: State, t: u32) -> u8
     ensures foretold { result ≡ level_to_come s t }
     ensures ticked { result ≡ line (ticks_of t s).frame }
 {
-    let x = s.frame;
-    let tx = s.tx;
     let p = pulses_to_come(s);
     let q = formula::place_after(s.baud.k, s.baud.divisor, p, t);
-    formula::level_at(x, tx, s.registers.lcr % limits::SIX_BITS, p, q)
+    formula::level_at(s.frame, s.tx, s.registers.lcr % limits::SIX_BITS, p, q)
 }
 
 // The ticks that run uses of at most n.
+#[tactic(auto, unfolding(device::specs::Forecast::used_of))]
 pub fn used(s: State, n: u32) -> u32
     requires { well_formed s ≡ true }
     ensures { result ≡ used_of s n }
@@ -72,6 +68,5 @@ pub fn used(s: State, n: u32) -> u32
     if number(s) != answer::DONE {
         return n;
     }
-    let ticks = ticks_to_come(s);
-    if n < ticks { n } else { ticks }
+    n.min(ticks_to_come(s))
 }

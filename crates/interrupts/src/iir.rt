@@ -20,50 +20,37 @@ fn enough(f: FifoControl, count: u32) -> bool
     settings::fifo::trigger_level(f) <= count
 }
 
-// The code of the first cause that applies.
-fn first_of(line: bool, available: bool, late: bool, empty: bool, moved: bool) -> u8
-    ensures { (result ≡ cond line 0x06 (cond available 0x04 (cond late 0x0c (cond empty 0x02 (cond moved 0x00 0x01))))) × (result ≤ 12) }
-{
-    if line {
-        return bits::IIR_RLSI;
-    }
-    if available {
-        return bits::IIR_RDI;
-    }
-    if late {
-        return bits::IIR_RX_TIMEOUT;
-    }
-    if empty {
-        return bits::IIR_THRI;
-    }
-    if moved {
-        return bits::IIR_MSI;
-    }
-    bits::IIR_NO_INT
-}
-
-// The identification code, where it is known whether PE, FE or BI shows. Each cause counts where IER
-// enables its interrupt. (With that test inside, the compiler no longer makes one function of the code
+// The identification code, that of the first cause that applies, where it is known whether PE, FE or BI
+// shows. Each cause counts where IER enables its interrupt. (With that test inside, the compiler no longer makes one function of the code
 // and the pins, and a step's answer is copied three times more.)
+#[tactic(auto, unfolding(device::specs::Iir::line_status, device::specs::Iir::data_available, device::specs::Iir::time_out, device::specs::Iir::thr_empty, device::specs::Iir::modem_status, device::specs::Iir::interrupt_code))]
 pub fn interrupt_code(s: State, error: bool) -> u8
     requires { error ≡ any_error (shown_errors s) }
     ensures { (result ≡ interrupt_code s) × (result ≤ 12) }
 {
     let ier = s.registers.ier;
     let l = s.latches;
-    first_of(
-        flag::both(
-            flag::has(ier, bits::IER_RLSI),
-            flag::either(l.overrun == 1, error),
-        ),
-        flag::both(flag::has(ier, bits::IER_RDI), enough(s.fifo, s.rx.count)),
-        flag::both(flag::has(ier, bits::IER_RDI), l.timeout == 1),
-        flag::both(flag::has(ier, bits::IER_THRI), l.empty == 1),
-        flag::both(flag::has(ier, bits::IER_MSI), 0 < l.changes),
-    )
+    let data = flag::has(ier, bits::IER_RDI);
+    if flag::has(ier, bits::IER_RLSI) && (l.overrun == 1 || error) {
+        return bits::IIR_RLSI;
+    }
+    if data && enough(s.fifo, s.rx.count) {
+        return bits::IIR_RDI;
+    }
+    if data && l.timeout == 1 {
+        return bits::IIR_RX_TIMEOUT;
+    }
+    if flag::has(ier, bits::IER_THRI) && l.empty == 1 {
+        return bits::IIR_THRI;
+    }
+    if flag::has(ier, bits::IER_MSI) && 0 < l.changes {
+        return bits::IIR_MSI;
+    }
+    bits::IIR_NO_INT
 }
 
 // The FIFO's bits.
+#[tactic(auto, unfolding(device::specs::Iir::fifo_code))]
 fn fifo_code(f: FifoControl) -> u8
     ensures { (result ≡ fifo_code f) × (result ≤ 0xe0) }
 {
@@ -78,6 +65,7 @@ fn fifo_code(f: FifoControl) -> u8
 }
 
 // The code and the FIFO's bits.
+#[tactic(auto, unfolding(device::specs::Iir::iir_read))]
 pub fn value(s: State) -> u8
     ensures { result ≡ (iir_read s).byte }
 {
@@ -85,6 +73,7 @@ pub fn value(s: State) -> u8
 }
 
 // Whether a read may change the state.
+#[tactic(auto, unfolding(device::specs::Iir::iir_read))]
 pub fn read_changes(s: State) -> bool
     ensures { result ≡ false → (iir_read s).state ≡ s }
 {
@@ -92,13 +81,15 @@ pub fn read_changes(s: State) -> bool
 }
 
 // After a read: answering 02 clears the transmit-empty latch.
+#[tactic(auto, unfolding(device::specs::Iir::iir_read))]
 pub fn after_read(s: State) -> State
     ensures { result ≡ (iir_read s).state }
 {
-    let mut next = s;
-    next.latches = device::with_empty(s.latches, 0);
     if interrupt_code(s, lsr::shows_error(s)) == bits::IIR_THRI {
-        return next;
+        return State {
+            latches: device::with_empty(s.latches, 0),
+            ..s
+        };
     }
     s
 }

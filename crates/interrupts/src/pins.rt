@@ -15,11 +15,11 @@ use sheet::bits;
 fn sout(loopback: bool, lcr: u8, x: Frame) -> u8
     ensures { result ≡ cond loopback 1 (cond (bit 6 lcr) 0 (line x)) }
 {
-    if flag::both(!loopback, flag::has(lcr, bits::LCR_SBC)) {
-        return 0;
-    }
     if loopback {
         return 1;
+    }
+    if flag::has(lcr, bits::LCR_SBC) {
+        return 0;
     }
     frame::line_level(x.left, x.byte, x.format)
 }
@@ -28,26 +28,26 @@ fn sout(loopback: bool, lcr: u8, x: Frame) -> u8
 fn outside(mcr: u8, hold: u8, sout: u8, intrpt: u8) -> Outputs
     ensures { result ≡ record { sout = sout; rts = bit_of (bit 1 mcr && not (on hold)); dtr = bit_of (bit 0 mcr); out1 = bit_of (bit 2 mcr); out2 = bit_of (bit 3 mcr); intrpt = intrpt } }
 {
-    let rts = flag::both(flag::has(mcr, bits::MCR_RTS), hold != 1);
     Outputs {
         sout,
-        rts: flag::bit(rts),
-        dtr: flag::bit(flag::has(mcr, bits::MCR_DTR)),
-        out1: flag::bit(flag::has(mcr, bits::MCR_OUT1)),
-        out2: flag::bit(flag::has(mcr, bits::MCR_OUT2)),
+        rts: u8::from(flag::has(mcr, bits::MCR_RTS) && hold != 1),
+        dtr: u8::from(flag::has(mcr, bits::MCR_DTR)),
+        out1: u8::from(flag::has(mcr, bits::MCR_OUT1)),
+        out2: u8::from(flag::has(mcr, bits::MCR_OUT2)),
         intrpt,
     }
 }
 
 // The levels of the output pins; in loopback no modem output is asserted. INTRPT is high exactly when
 // the code is not 01.
+#[tactic(auto, unfolding(device::specs::Pins::intrpt, device::specs::Pins::outputs))]
 pub fn outputs(s: State) -> Outputs
     ensures { result ≡ «outputs-of» s }
 {
     let r = s.registers;
     let loopback = modem::loopback(r);
     let sout = sout(loopback, r.lcr, s.frame);
-    let intrpt = flag::bit(iir::interrupt_code(s, lsr::shows_error(s)) != bits::IIR_NO_INT);
+    let intrpt = u8::from(iir::interrupt_code(s, lsr::shows_error(s)) != bits::IIR_NO_INT);
     if !loopback {
         return outside(r.mcr, s.latches.hold, sout, intrpt);
     }

@@ -13,14 +13,6 @@ pub fn limit(lcr: u8) -> u32
     4 * frame::frame_length(lcr % limits::SIX_BITS)
 }
 
-// The idle count one pulse later.
-fn one_more(n: u32) -> u32
-    requires { n ≤ 769 }
-    ensures { result ≡ min (n + 1) 769 }
-{
-    if n < limits::IDLE_MOST { n + 1 } else { n }
-}
-
 // The time-out latch at an idle count: above the limit it is set.
 pub fn time_out(limit: u32, n: u32, before: u8) -> u8
     ensures { result ≡ cond (ltb limit n) 1 before }
@@ -29,22 +21,24 @@ pub fn time_out(limit: u32, n: u32, before: u8) -> u8
 }
 
 // One more pulse without a character.
+#[tactic(auto, unfolding(device::specs::Idle::counted))]
 pub fn counted(limit: u32, l: Latches) -> Latches
     requires { l.idle ≤ 769 }
     ensures { result ≡ «Counted-of» limit l }
 {
-    let n = one_more(l.idle);
-    let mut next = l;
-    next.timeout = time_out(limit, n, l.timeout);
-    next.idle = n;
-    next
+    let n = (l.idle + 1).min(limits::IDLE_MOST);
+    Latches {
+        timeout: time_out(limit, n, l.timeout),
+        idle: n,
+        ..l
+    }
 }
 
 // Whether the idle count goes on: the FIFO is on and data is waiting.
 pub fn counts(f: FifoControl, received: u32) -> bool
     ensures { result ≡ «Counts-of» f received }
 {
-    flag::both(f.enabled == 1, received != 0)
+    f.enabled == 1 && received != 0
 }
 
 // The latches after the idle count's part of a pulse, in which a character entered the queue or not,
@@ -57,19 +51,19 @@ pub fn later(f: FifoControl, received: u32, lcr: u8, entered: bool, l: Latches) 
         return l;
     }
     if entered {
-        let mut next = l;
-        next.idle = 0;
-        return next;
+        return Latches { idle: 0, ..l };
     }
     counted(limit(lcr), l)
 }
 
 // The idle count's part of a pulse, in which a character entered the queue or not.
+#[tactic(auto, unfolding(device::specs::Idle::idled))]
 pub fn idle(entered: bool, s: State) -> State
     requires { s.latches.idle ≤ 769 }
     ensures { result ≡ idled entered s }
 {
-    let mut next = s;
-    next.latches = later(s.fifo, s.rx.count, s.registers.lcr, entered, s.latches);
-    next
+    State {
+        latches: later(s.fifo, s.rx.count, s.registers.lcr, entered, s.latches),
+        ..s
+    }
 }

@@ -22,16 +22,17 @@ pub fn no_frame() -> Frame
 }
 
 // The frame one pulse later: L falls by 1, and at 0 nothing is left of it.
+#[tactic(auto, unfolding(device::specs::Transmitter::shifted_out))]
 pub fn shift_out(x: Frame) -> Frame
     ensures { result ≡ shifted_out x }
 {
-    let left = x.left;
-    if left <= 1 {
+    if x.left <= 1 {
         return no_frame();
     }
-    let mut next = x;
-    next.left = left - 1;
-    next
+    Frame {
+        left: x.left - 1,
+        ..x
+    }
 }
 
 // Whether a byte would be loaded, with `count` of them queued: there is one, and the transmitter is
@@ -39,7 +40,7 @@ pub fn shift_out(x: Frame) -> Frame
 pub fn ready(count: u32, r: Registers, f: FifoControl, i: Inputs) -> bool
     ensures { result ≡ (not (eqb count 0) && not (held r f i)) }
 {
-    flag::both(count != 0, !autoflow::held(r, f, i))
+    count != 0 && !autoflow::held(r, f, i)
 }
 
 // The frame of the oldest byte queued, in the format of LCR, at its start.
@@ -47,10 +48,9 @@ pub fn next_frame(q: ByteQueue, lcr: u8) -> Frame
     ensures { result ≡ frame_of (get_or q.bytes 0 0) (format_of lcr) }
 {
     let format = lcr % limits::SIX_BITS;
-    let byte = q.bytes[0];
     Frame {
         left: frame::frame_length(format),
-        byte,
+        byte: q.bytes[0],
         format,
     }
 }
@@ -59,40 +59,36 @@ pub fn next_frame(q: ByteQueue, lcr: u8) -> Frame
 pub fn emptied(count: u32, l: Latches) -> Latches
     ensures { result ≡ cond (eqb count 1) (with_empty l 1) l }
 {
-    let mut next = l;
     if count == 1 {
-        next.empty = 1;
+        return device::with_empty(l, 1);
     }
-    next
+    l
 }
 
 // The oldest byte goes into the shift register, in the format of LCR. Emptying the queue sets the
 // transmit-empty latch.
+#[tactic(auto, unfolding(device::specs::Transmitter::loaded))]
 fn load(s: State) -> State
     requires { 0 < s.tx.count }
     ensures { result ≡ loaded s }
 {
-    let q = s.tx;
-    let mut next = s;
-    next.frame = next_frame(q, s.registers.lcr);
-    next.latches = emptied(q.count, s.latches);
-    next.tx = queue::bytes::take(q);
-    next
+    State {
+        frame: next_frame(s.tx, s.registers.lcr),
+        latches: emptied(s.tx.count, s.latches),
+        tx: queue::bytes::take(s.tx),
+        ..s
+    }
 }
 
 // The transmitter's part of a pulse: L falls by 1, and at 0 the next byte is loaded, where one is
 // queued and the transmitter is not held.
+#[tactic(auto, unfolding(device::specs::Transmitter::ready, device::specs::Transmitter::transmitted))]
 pub fn transmit(s: State) -> State
     ensures { result ≡ transmitted s }
 {
-    let r = s.registers;
-    let f = s.fifo;
-    let i = s.inputs;
     let x = shift_out(s.frame);
-    if flag::both(x.left == 0, ready(s.tx.count, r, f, i)) {
+    if x.left == 0 && ready(s.tx.count, s.registers, s.fifo, s.inputs) {
         return load(s);
     }
-    let mut next = s;
-    next.frame = x;
-    next
+    State { frame: x, ..s }
 }

@@ -43,7 +43,7 @@ unfolding enters
 enters_not t e = simp e
 
 -- the idle count goes on, or not
-abbrev later : State → Latches
+abbrev pub later : State → Latches
 later s =
     cond (counts s.fifo s.rx.count) (counted (time_out_at s.registers.lcr) s.latches) s.latches
 
@@ -59,16 +59,16 @@ settled-later r f n limit b l e =
     by_test (λ (m : Latches). settled_latches r f n m ≡ m) b _ _ (λ _. ap (counted limit) e) (λ _. e)
 
 -- the receiver after the transmitter's part of such a pulse
-abbrev heard_quietly : State → Received
+abbrev pub heard_quietly : State → Received
 heard_quietly s =
     receiver_pulse (cond (loopback s.registers) (line (shifted_out s.frame)) s.inputs.sin) s.registers.lcr s.receiver
 
 -- the state with these parts
-abbrev parts : State → Frame → Receiver → Latches → State
+abbrev pub parts : State → Frame → Receiver → Latches → State
 parts s x v l = with_latches (with_receiver (with_frame s x) v) l
 
 -- the whole pulse
-pulsed_quiet : (s : State) → settled s ≡ s
+pub pulsed_quiet : (s : State) → settled s ≡ s
     → (eqb (shifted_out s.frame).left 0 && ready s) ≡ false
     → (heard_quietly s).ended ≡ false
     → settled (pulsed s) ≡ parts s (shifted_out s.frame) (heard_quietly s).receiver (later s)

@@ -22,16 +22,21 @@ const NEVER: u32 = 4294967295;
 const ALL_LOW: u32 = 4294967295;
 
 // The pulses before a byte is loaded, with so many left of the frame, where one is ready or not.
+#[tactic(auto, unfolding(crate::specs::Quiet::sends))]
 fn sends(ready: bool, left: u32) -> u32
     ensures { result ≡ «sends-of» ready left }
 {
     if ready {
-        return frame::less(left, 1);
+        return left.saturating_sub(1);
     }
     NEVER
 }
 
+// Loopback, frame and SIN stand apart in what follows, as the definitions take them: each contract would
+// take a struct of them apart again.
+
 // The low bits of the line that the receiver hears: in loopback those of the frame, else SIN's.
+#[tactic(auto, unfolding(crate::specs::Quiet::low_heard))]
 fn low_heard(loopback: bool, x: Frame, sin: u8) -> u32
     ensures { result ≡ low_heard loopback x sin }
 {
@@ -45,11 +50,12 @@ fn low_heard(loopback: bool, x: Frame, sin: u8) -> u32
 }
 
 // The place in them now.
+#[tactic(auto, unfolding(crate::specs::Quiet::place_heard))]
 fn place_heard(loopback: bool, x: Frame) -> u32
     ensures { (result ≡ place_heard loopback x) × (result ≤ 192) }
 {
     if loopback {
-        return frame::less(frame::frame_length(x.format), x.left);
+        return frame::frame_length(x.format).saturating_sub(x.left);
     }
     0
 }
@@ -64,27 +70,27 @@ fn low_from(loopback: bool, x: Frame, sin: u8, i: u32) -> u32
 }
 
 // Whether the start sample of a character is still to come, and will be high.
+#[tactic(auto, unfolding(crate::specs::Quiet::false_start))]
 fn false_start(loopback: bool, x: Frame, sin: u8, position: u32) -> bool
     ensures { result ≡ false_start loopback x sin position }
 {
-    if 8 <= position {
-        return false;
-    }
-    low_from(loopback, x, sin, 8 - position) % 2 == 0
+    position < 8 && low_from(loopback, x, sin, 8 - position) % 2 == 0
 }
 
 // The pulses of a character before a false start's sample, or before its stop sample.
+#[tactic(auto, unfolding(crate::specs::Quiet::character_hears))]
 fn character_hears(loopback: bool, x: Frame, sin: u8, v: Receiver) -> u32
     ensures { result ≡ character_hears loopback x sin v }
 {
     let position = v.position;
     if false_start(loopback, x, sin, position) {
-        return frame::less(7, position);
+        return 7u32.saturating_sub(position);
     }
-    frame::less(sampling::stop_position(v.format) - 1, position)
+    (sampling::stop_position(v.format) - 1).saturating_sub(position)
 }
 
 // The pulses before a character begins or ends.
+#[tactic(auto, unfolding(crate::specs::Quiet::hears))]
 fn hears(loopback: bool, x: Frame, sin: u8, v: Receiver) -> u32
     ensures { result ≡ «hears-of» loopback x sin v }
 {
@@ -92,7 +98,7 @@ fn hears(loopback: bool, x: Frame, sin: u8, v: Receiver) -> u32
         return character_hears(loopback, x, sin, v);
     }
     if v.phase == WAITING {
-        if flag::both(!loopback, sin == 0) {
+        if !loopback && sin == 0 {
             return NEVER;
         }
         return 0;
@@ -104,19 +110,21 @@ fn hears(loopback: bool, x: Frame, sin: u8, v: Receiver) -> u32
 }
 
 // The frame m pulses later.
+#[tactic(auto, unfolding(crate::specs::Quiet::shifted_by))]
 pub fn shift_by(m: u32, x: Frame) -> Frame
     ensures { result ≡ shifted_by m x }
 {
-    let left = x.left;
-    if left <= m {
+    if x.left <= m {
         return transmitter::no_frame();
     }
-    let mut next = x;
-    next.left = left - m;
-    next
+    Frame {
+        left: x.left - m,
+        ..x
+    }
 }
 
 // The receiver m pulses later.
+#[tactic(auto, unfolding(crate::specs::Quiet::heard_by))]
 pub fn hear_by(loopback: bool, x: Frame, sin: u8, m: u32, v: Receiver) -> Receiver
     requires { Hearing loopback x m v }
     ensures { result ≡ heard_by loopback x sin m v }
@@ -128,28 +136,18 @@ pub fn hear_by(loopback: bool, x: Frame, sin: u8, m: u32, v: Receiver) -> Receiv
     samples::sample_by(low_heard(loopback, x, sin), place, m, v)
 }
 
-// The idle count m pulses later.
-fn more(m: u32, n: u32) -> u32
-    requires { n ≤ 769 }
-    ensures { result ≡ min (n + m) 769 }
-{
-    if m < limits::IDLE_MOST - n {
-        n + m
-    } else {
-        limits::IDLE_MOST
-    }
-}
-
 // The latches m pulses later, with the idle count going on.
+#[tactic(auto, using(crate::proofs::Counted::counted_some))]
 fn count_by(limit: u32, m: u32, l: Latches) -> Latches
     requires { (1 ≤ m) × (l.idle ≤ 769) }
     ensures { result ≡ counted_by limit m l }
 {
-    let n = more(m, l.idle);
-    let mut next = l;
-    next.timeout = idle::time_out(limit, n, l.timeout);
-    next.idle = n;
-    next
+    let n = l.idle.saturating_add(m).min(limits::IDLE_MOST);
+    Latches {
+        timeout: idle::time_out(limit, n, l.timeout),
+        idle: n,
+        ..l
+    }
 }
 
 // The latches m pulses later, with `received` characters queued.
@@ -163,23 +161,14 @@ pub fn later_by(f: FifoControl, received: u32, lcr: u8, m: u32, l: Latches) -> L
     l
 }
 
-// The smaller of two numbers.
-fn smaller(a: u32, b: u32) -> u32
-    ensures { result ≡ min a b }
-{
-    if a < b { a } else { b }
-}
-
 // The pulses before the next event, `most` at most.
+#[tactic(auto, unfolding(crate::specs::Quiet::reach_of, device::specs::Transmitter::ready))]
 pub fn reach(s: State, most: u32) -> u32
     ensures { result ≡ min (reach_of s) most }
 {
-    let r = s.registers;
-    let x = s.frame;
-    let f = s.fifo;
-    let i = s.inputs;
-    let v = s.receiver;
-    let sent = sends(transmitter::ready(s.tx.count, r, f, i), x.left);
-    let heard = hears(modem::loopback(r), x, i.sin, v);
-    smaller(smaller(sent, heard), most)
+    let ready = transmitter::ready(s.tx.count, s.registers, s.fifo, s.inputs);
+    let loopback = modem::loopback(s.registers);
+    let sent = sends(ready, s.frame.left);
+    let heard = hears(loopback, s.frame, s.inputs.sin, s.receiver);
+    sent.min(heard).min(most)
 }

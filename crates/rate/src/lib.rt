@@ -5,7 +5,6 @@
 ghost use Rattle.std.specs.Prelude.{◌≡◌, ℕ, ◌^◌, ◌≤◌, ◌<◌, pos, neg_ℤ};
 ghost use Rattle.rate.specs.Rate.{Nearest, divisor_for, error_of, within as «within_both»};
 
-use flag::both;
 use sheet::{answer, limits};
 
 // What the call answers: the divisor, and the error in parts per million.
@@ -51,8 +50,7 @@ fn below(parts: u64) -> i32
     requires { parts < 2 ^ 31 }
     ensures { result ≡ neg_ℤ (pos parts) }
 {
-    let error = parts as i32;
-    -error
+    -(parts as i32)
 }
 
 // The error of the nearest divisor.
@@ -72,16 +70,11 @@ fn error_of(clock: u32, rate: u32, divisor: u32) -> i32
 }
 
 // A clock and a rate that are not outside.
+#[tactic(auto, unfolding(crate::specs::Rate::within))]
 fn within(clock: u32, rate: u32) -> bool
     ensures { result ≡ «within_both» clock rate }
 {
-    both(
-        1 <= clock,
-        both(
-            clock <= limits::CLOCK_MOST,
-            both(1 <= rate, rate <= limits::RATE_MOST),
-        ),
-    )
+    1 <= clock && clock <= limits::CLOCK_MOST && 1 <= rate && rate <= limits::RATE_MOST
 }
 
 // The divisor for a rate, with its error.

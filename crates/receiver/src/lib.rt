@@ -57,77 +57,66 @@ fn goes_on(v: Receiver) -> Received
 fn is_break(v: Receiver, level: u8) -> bool
     ensures { result ≡ is_break v level }
 {
-    flag::both(v.samples == 0, flag::both(v.parity == 0, level == 0))
+    v.samples == 0 && v.parity == 0 && level == 0
 }
 
 // The entry of a character with this stop sample.
+#[tactic(auto, unfolding(device::specs::Receiver::entry_of))]
 fn entry_of(v: Receiver, level: u8) -> Entry
     ensures { result ≡ entry_of v level }
 {
-    let format = v.format;
-    let samples = v.samples;
-    let differs = v.parity != frame::parity_bit(samples, format);
+    let differs = v.parity != frame::parity_bit(v.samples, v.format);
     Entry {
-        byte: samples,
-        pe: flag::bit(flag::both(frame::parity_bits(format) == 1, differs)),
-        fe: flag::bit(level == 0),
-        bi: flag::bit(is_break(v, level)),
+        byte: v.samples,
+        pe: u8::from(frame::parity_bits(v.format) == 1 && differs),
+        fe: u8::from(level == 0),
+        bi: u8::from(is_break(v, level)),
     }
 }
 
 // The first stop sample ends the character. After a break the receiver waits for mark; after FE
 // without break the low sample is the next start bit.
+#[tactic(auto, unfolding(device::specs::Receiver::stop_sample))]
 fn stop_sample(level: u8, lcr: u8, v: Receiver) -> Received
     ensures { result ≡ stop_sample level lcr v }
 {
-    let entry = entry_of(v, level);
-    if is_break(v, level) {
-        return Received {
-            receiver: outside(WAITING),
-            ended: true,
-            entry,
-        };
-    }
-    if level == 0 {
-        return Received {
-            receiver: start_at(8, lcr),
-            ended: true,
-            entry,
-        };
-    }
+    let receiver = if is_break(v, level) {
+        outside(WAITING)
+    } else if level == 0 {
+        start_at(8, lcr)
+    } else {
+        outside(IDLE)
+    };
     Received {
-        receiver: outside(IDLE),
+        receiver,
         ended: true,
-        entry,
+        entry: entry_of(v, level),
     }
 }
 
 // The character with its next sample: data from bit 0, then parity.
+#[tactic(auto, unfolding(device::specs::Receiver::sampled))]
 fn sample(level: u8, v: Receiver) -> Receiver
     requires { Sampling level v }
     ensures { result ≡ sampled level v }
 {
-    let mut next = v;
     let n = sampling::samples_taken(v.position);
-    let samples = v.samples;
     if n < frame::data_bits(v.format) {
-        next.samples = samples + (level << n);
-        return next;
+        let samples = v.samples + (level << n);
+        return Receiver { samples, ..v };
     }
-    next.parity = level;
-    next
+    Receiver { parity: level, ..v }
 }
 
 // The character at a position.
 pub fn at_position(position: u32, v: Receiver) -> Receiver
     ensures { result ≡ at_position position v }
 {
-    let mut next = v;
-    next.position = position;
-    next
+    Receiver { position, ..v }
 }
 
 // In a character, at its next position: samples fall at 8, 24, 40 and so on.
+#[tactic(auto, unfolding(device::specs::Receiver::in_character))]
 fn in_character(level: u8, lcr: u8, position: u32, v: Receiver) -> Received
     requires { Sampling level v }
     ensures { result ≡ in_character level lcr position v }
@@ -148,6 +137,7 @@ fn in_character(level: u8, lcr: u8, position: u32, v: Receiver) -> Received
 }
 
 // What a pulse that hears a level makes of the receiver.
+#[tactic(auto, unfolding(device::specs::Receiver::receiver_pulse))]
 fn receive(level: u8, lcr: u8, v: Receiver) -> Received
     requires { Sampling level v }
     ensures { result ≡ receiver_pulse level lcr v }
@@ -188,15 +178,17 @@ pub fn listen(loopback: bool, x: Frame, sin: u8, lcr: u8, v: Receiver) -> Receiv
 }
 
 // What this pulse makes of the receiver.
+#[tactic(auto, unfolding(device::specs::Receiver::heard))]
 pub fn hear(s: State) -> Received
     requires { Hearing s }
     ensures { result ≡ receiver_pulse_of s }
 {
-    let r = s.registers;
-    listen(modem::loopback(r), s.frame, s.inputs.sin, r.lcr, s.receiver)
+    let loopback = modem::loopback(s.registers);
+    listen(loopback, s.frame, s.inputs.sin, s.registers.lcr, s.receiver)
 }
 
 // Whether a queue with `count` entries is full.
+#[tactic(auto, unfolding(queue::specs::Queue::is_full))]
 pub fn is_full(f: FifoControl, count: u32) -> bool
     ensures { result ≡ is_full (capacity f) count }
 {
@@ -207,39 +199,42 @@ pub fn is_full(f: FifoControl, count: u32) -> bool
 pub fn enters(s: State, ended: bool) -> bool
     ensures { result ≡ (ended && not (is_full (capacity s.fifo) s.rx.count)) }
 {
-    let f = s.fifo;
-    flag::both(ended, !is_full(f, s.rx.count))
+    ended && !is_full(s.fifo, s.rx.count)
 }
 
 // The latches after a character is put into a queue that was full or not: a full one sets OE.
 pub fn overrun(full: bool, l: Latches) -> Latches
     ensures { result ≡ with_overrun l (cond full 1 l.overrun) }
 {
-    let before = l.overrun;
-    let mut next = l;
-    next.overrun = errors::set_if(full, before);
-    next
+    Latches {
+        overrun: errors::set_if(full, l.overrun),
+        ..l
+    }
 }
 
 // An entry is put into the queue, in character mode its errors apart. A full queue sets OE.
+#[tactic(auto, unfolding(device::specs::Receiver::with_entry))]
 fn enter(s: State, e: Entry) -> State
     ensures { result ≡ with_entry s e }
 {
     let f = s.fifo;
-    let q = s.rx;
-    let mut next = s;
-    next.rx = queue::entries::put(q, fifo::capacity(f), errors::entering(f, e));
-    next.latches = overrun(is_full(f, q.count), s.latches);
-    next.kept = errors::kept_after(f, e, s.kept);
-    next
+    State {
+        rx: queue::entries::put(s.rx, fifo::capacity(f), errors::entering(f, e)),
+        latches: overrun(is_full(f, s.rx.count), s.latches),
+        kept: errors::kept_after(f, e, s.kept),
+        ..s
+    }
 }
 
 // The state with what a pulse made of the receiver, and the entry of a character that ended.
+#[tactic(auto, unfolding(device::specs::Receiver::with_received))]
 pub fn accept(s: State, r: Received) -> State
     ensures { result ≡ with_received s r }
 {
-    let mut next = s;
-    next.receiver = r.receiver;
+    let next = State {
+        receiver: r.receiver,
+        ..s
+    };
     if r.ended {
         return enter(next, r.entry);
     }

@@ -21,11 +21,12 @@ fn with_all(all: u32, v: Receiver) -> Receiver
     requires { all < 2 ^ suc (data_bits v.format) }
     ensures { result ≡ with_all all v }
 {
-    let mut next = v;
     let bits = frame::data_bits(v.format);
-    next.samples = (all % (1u32 << bits)) as u8;
-    next.parity = (all >> bits) as u8;
-    next
+    Receiver {
+        samples: (all % (1u32 << bits)) as u8,
+        parity: (all >> bits) as u8,
+        ..v
+    }
 }
 
 // The character m pulses later, before its stop sample: `low` has the low bits of the line,
@@ -38,8 +39,10 @@ pub fn sample_by(low: u32, place: u32, m: u32, v: Receiver) -> Receiver
     let later = p + m;
     let before = sampling::samples_taken(p);
     let after = sampling::samples_taken(later);
-    let mut next = v;
-    next.position = later;
+    let next = Receiver {
+        position: later,
+        ..v
+    };
     if after == before {
         return next;
     }

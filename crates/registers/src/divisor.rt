@@ -26,13 +26,14 @@ pub fn high(s: State) -> u8
 fn with_divisor(s: State, d: u32) -> Numbers
     ensures { result ≡ numbers_of (with_divisor s d) }
 {
-    let baud = Baud { divisor: d, k: d };
-    let mut next = numbers_of(s);
-    next.baud = baud;
-    next
+    Numbers {
+        baud: Baud { divisor: d, k: d },
+        ..numbers_of(s)
+    }
 }
 
 // The low byte is replaced.
+#[tactic(auto, unfolding(device::specs::Divisor::divisor_low_write))]
 pub fn write_low(s: State, b: u8) -> Numbers
     ensures { result ≡ numbers_of (divisor_low_write s b) }
 {
@@ -41,6 +42,7 @@ pub fn write_low(s: State, b: u8) -> Numbers
 }
 
 // The high byte is replaced.
+#[tactic(auto, unfolding(device::specs::Divisor::divisor_high_write))]
 pub fn write_high(s: State, b: u8) -> Numbers
     ensures { result ≡ numbers_of (divisor_high_write s b) }
 {

@@ -14,24 +14,19 @@ use sheet::{bits, limits};
 fn latches_after(l: Latches, ier: u8, b: u8, count: u32) -> Latches
     ensures { result ≡ cond (not (bit 1 ier) && (bit 1 b && eqb count 0)) (with_empty l 1) l }
 {
-    let raised = flag::both(
-        !flag::has(ier, bits::IER_THRI),
-        flag::both(flag::has(b, bits::IER_THRI), count == 0),
-    );
-    if raised {
+    if !flag::has(ier, bits::IER_THRI) && flag::has(b, bits::IER_THRI) && count == 0 {
         return device::with_empty(l, 1);
     }
     l
 }
 
 // The low six bits are stored.
+#[tactic(auto, unfolding(device::specs::Ier::ier_write))]
 pub fn write(s: State, b: u8) -> Numbers
     ensures { result ≡ numbers_of (ier_write s b) }
 {
-    let ier = b % limits::SIX_BITS;
-    let latches = latches_after(s.latches, s.registers.ier, b, s.tx.count);
     let mut next = numbers_of(s);
-    next.registers.ier = ier;
-    next.latches = latches;
+    next.registers.ier = b % limits::SIX_BITS;
+    next.latches = latches_after(s.latches, s.registers.ier, b, s.tx.count);
     next
 }

@@ -15,6 +15,7 @@ pub fn divisor_access(r: Registers) -> bool
 }
 
 // Stored as written.
+#[tactic(auto, unfolding(device::specs::Lcr::lcr_write))]
 pub fn write(s: State, b: u8) -> Numbers
     ensures { result ≡ numbers_of (lcr_write s b) }
 {

@@ -22,12 +22,9 @@ use device::{Numbers, State};
 pub fn numbers_of(s: State) -> Numbers
     ensures { result ≡ numbers_of s }
 {
-    let registers = s.registers;
-    let baud = s.baud;
-    let latches = s.latches;
     Numbers {
-        registers,
-        baud,
-        latches,
+        registers: s.registers,
+        baud: s.baud,
+        latches: s.latches,
     }
 }

@@ -11,23 +11,24 @@ use settings::modem;
 pub fn latches_after(l: Latches, from: u8, to: u8) -> Latches
     ensures { result ≡ with_changes l (changes_after l.changes «from» to) }
 {
-    let changes = modem::changes_after(l.changes, from, to);
-    let mut next = l;
-    next.changes = changes;
-    next
+    Latches {
+        changes: modem::changes_after(l.changes, from, to),
+        ..l
+    }
 }
 
 // The effective levels above their change bits.
+#[tactic(auto, using(crate::proofs::Laws::levels_most), unfolding(device::specs::Msr::msr_read))]
 pub fn value(s: State) -> u8
     requires changes_bound { s.latches.changes ≤ 15 }
     requires modem_bound { s.inputs.modem ≤ 15 }
     ensures { result ≡ (msr_read s).byte }
 {
-    let levels = modem::effective_levels(s.registers, s.inputs);
-    s.latches.changes + 16 * levels
+    s.latches.changes + 16 * modem::effective_levels(s.registers, s.inputs)
 }
 
 // Whether a read changes the state.
+#[tactic(auto, using(crate::proofs::Laws::msr_kept))]
 pub fn read_changes(s: State) -> bool
     ensures { result ≡ false → (msr_read s).state ≡ s }
 {
@@ -35,6 +36,7 @@ pub fn read_changes(s: State) -> bool
 }
 
 // After a read: the change bits are cleared.
+#[tactic(auto, unfolding(device::specs::Msr::msr_read))]
 pub fn after_read(s: State) -> State
     ensures { result ≡ (msr_read s).state }
 {

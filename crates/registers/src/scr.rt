@@ -7,6 +7,7 @@ use crate::numbers_of;
 use device::{Numbers, State};
 
 // Stored as written.
+#[tactic(auto, unfolding(device::specs::Scr::scr_write))]
 pub fn write(s: State, b: u8) -> Numbers
     ensures { result ≡ numbers_of (scr_write s b) }
 {

@@ -50,20 +50,20 @@ pub fn after_read(s: State, address: u8) -> State
 }
 
 // What a read of RBR changes where something is received.
+#[tactic(auto, using(crate::proofs::Laws::taken_settled), unfolding(device::specs::Autoflow::settled))]
 pub fn take(s: State) -> Taken
     requires { 0 < s.rx.count }
     ensures { result ≡ record { rx = (settled (rbr_read s).state).rx; latches = (settled (rbr_read s).state).latches } }
 {
-    let r = rbr::take(s);
-    let rx = r.rx;
-    let latches = r.latches;
+    let taken = rbr::take(s);
     Taken {
-        rx,
-        latches: autoflow::settle_latches(s.registers, s.fifo, rx.count, latches),
+        latches: autoflow::settle_latches(s.registers, s.fifo, taken.rx.count, taken.latches),
+        ..taken
     }
 }
 
 // What a write to THR changes.
+#[tactic(auto, using(crate::proofs::Laws::settled_thr))]
 pub fn put(s: State, byte: u8) -> Queued
     requires { well_formed s ≡ true }
     ensures { result ≡ record { tx = (settled (thr_write s byte)).tx; latches = (settled (thr_write s byte)).latches } }
@@ -77,13 +77,9 @@ pub fn numbers(s: State, address: u8, byte: u8) -> Numbers
     ensures { result ≡ numbers_of (settled (write_register s address byte)) }
 {
     let n = bus::write_numbers(s, address, byte);
-    let registers = n.registers;
-    let baud = n.baud;
-    let latches = n.latches;
     Numbers {
-        registers,
-        baud,
-        latches: autoflow::settle_latches(registers, s.fifo, s.rx.count, latches),
+        latches: autoflow::settle_latches(n.registers, s.fifo, s.rx.count, n.latches),
+        ..n
     }
 }
 
@@ -103,17 +99,16 @@ pub fn write(s: State, address: u8, byte: u8) -> State
         return write_queue(s, address, byte);
     }
     let n = numbers(s, address, byte);
-    let registers = n.registers;
-    let baud = n.baud;
-    let latches = n.latches;
-    let mut next = s;
-    next.registers = registers;
-    next.baud = baud;
-    next.latches = latches;
-    next
+    State {
+        registers: n.registers,
+        baud: n.baud,
+        latches: n.latches,
+        ..s
+    }
 }
 
 // The pin SIN at a level.
+#[tactic(auto, using(crate::proofs::Laws::settled_inputs))]
 pub fn set_sin(s: State, level: u8) -> State
     requires { well_formed s ≡ true }
     ensures { result ≡ settled (with_inputs s (record { modem = s.inputs.modem; sin = level })) }
@@ -122,6 +117,7 @@ pub fn set_sin(s: State, level: u8) -> State
 }
 
 // The modem pins CTS, DSR, RI, DCD asserted as bits 0..3 say; a change of the effective levels counts.
+#[tactic(auto, unfolding(device::specs::Autoflow::settled, device::specs::Msr::with_levels))]
 pub fn set_modem(s: State, levels: u8) -> State
     ensures { result ≡ settled (with_levels s (with_inputs s (record { modem = levels; sin = s.inputs.sin }))) }
 {
@@ -132,10 +128,11 @@ pub fn set_modem(s: State, levels: u8) -> State
     let from = modem::effective_levels(s.registers, s.inputs);
     let to = modem::effective_levels(s.registers, inputs);
     let latches = msr::latches_after(s.latches, from, to);
-    let mut next = s;
-    next.inputs = inputs;
-    next.latches = autoflow::settle_latches(s.registers, s.fifo, s.rx.count, latches);
-    next
+    State {
+        inputs,
+        latches: autoflow::settle_latches(s.registers, s.fifo, s.rx.count, latches),
+        ..s
+    }
 }
 
 // n ticks of the clock.

@@ -6,11 +6,11 @@ use Rattle.device.specs.Receiver.{sampled}
 use Prim.Native.Nat.{◌<◌}
 use mathlib.Core.Path.{◌≡◌}
 use native.Mathlib.Omega.{arith}
-use borrow.Author.Tests.{lt-ltb, le-ltb}
+use borrow.Author.Tests.{lt-ltb}
 use Rattle.receiver.proofs.sample.Goals as goal
 
-pub overflow_add-next : goal.overflow_add-next
-overflow_add-next c =
+pub overflow_add-samples : goal.overflow_add-samples
+overflow_add-samples c =
     let a = c.args in
     let p = c.requires in
     let n = samples_taken a.v.position in
@@ -29,7 +29,3 @@ returns-then-n-data_bits c =
     let few : n < 8 = omega arith in
     let below : n < data_bits a.v.format = omega arith in
     rw (same, sample_byte a.level n p.level few, lt-ltb _ _ below)
-
-pub returns : goal.returns
-unfolding sampled
-returns c = simp (← c.data_bits.ensures.0, ← c.samples_taken-n.ensures, le-ltb _ _ c.if-n-data_bits.false)

@@ -23,48 +23,47 @@ use Rattle.quiet_pulses.proofs.Quiet.{quiet_by, quiet_hearing, quiet_pulses}
 use Rattle.clock.proofs.Event.{loads, sent, heard_by, pulsed_event, event_idle}
 use Rattle.clock.proofs.Going.{going_start, going_on, going_once}
 use Rattle.clock.proofs.Needed.{state_sampling, state_idle}
-use Rattle.clock.proofs.pulse.pulses.Goals.{After-both, Joined-both, After-listen-h, Joined-h, then-both, else-both, then-h, else-h}
+use Rattle.clock.proofs.pulse.pulses.Goals.{Joined-loads, After-listen-h, Joined-h, then-loads, else-loads, then-h, else-h}
 use Rattle.clock.proofs.pulse.pulses.Goals as goal
 
 -- the transmitter's part
-sent-by : (c : Joined-both) → c.if-both.t ≡ sent (loads c.loop-left.t) c.loop-left.t
+sent-by : (c : Joined-loads) → c.if-loads.t ≡ sent (loads c.loop-left.t) c.loop-left.t
 unfolding ready
 sent-by c =
     let t = c.loop-left.t in
-    let is : c.both.result ≡ loads t =
-    c.both.ensures
-    ∙ ap (λ (x : Frame). eqb x.left 0 && c.ready.result) c.shift_out-x.ensures
+    let is : (eqb c.shift_out-x.result.left 0 && c.ready.result) ≡ loads t =
+    ap (λ (x : Frame). eqb x.left 0 && c.ready.result) c.shift_out-x.ensures
     ∙ ap (λ (d : Bool). eqb (shifted_out t.frame).left 0 && d) c.ready.ensures in
-    elim c.if-both.branch [
-      | then-both w ↦
+    elim c.if-loads.branch [
+      | then-loads w ↦
           w.t-is
-          ∙ rw (w.take-t.ensures, w.emptied-t.ensures, w.next_frame-t.ensures) (ap (λ (b : Bool). sent b t) (sym w.if-both.true ∙ is))
-      | else-both w ↦
+          ∙ rw (w.take-t.ensures, w.emptied-t.ensures, w.next_frame-t.ensures) (ap (λ (b : Bool). sent b t) (sym w.if-loads.true ∙ is))
+      | else-loads w ↦
           w.t-is
           ∙ ap (λ (x : Frame). with_frame t x) c.shift_out-x.ensures
-          ∙ ap (λ (b : Bool). sent b t) (sym w.if-both.false ∙ is)
+          ∙ ap (λ (b : Bool). sent b t) (sym w.if-loads.false ∙ is)
     ]
 
 -- what the receiver makes of it
-heard-is : (c : After-listen-h) → c.if-both.t ≡ sent (loads c.loop-left.t) c.loop-left.t
+heard-is : (c : After-listen-h) → c.if-loads.t ≡ sent (loads c.loop-left.t) c.loop-left.t
     → c.listen-h.result ≡ receiver_pulse_of (sent (loads c.loop-left.t) c.loop-left.t)
 unfolding heard
 heard-is c e =
     let t = c.loop-left.t in
-    let u = c.if-both.t in
+    let u = c.if-loads.t in
     c.listen-h.ensures
     ∙ ap (λ (b : Bool). receiver_pulse (cond b (line u.frame) t.inputs.sin) t.registers.lcr u.receiver) c.loopback-looped.ensures
     ∙ ap (λ (r : State). receiver_pulse (cond (loopback t.registers) (line r.frame) t.inputs.sin) t.registers.lcr r.receiver) e
 
 -- the receiver's part
-heard-by : (c : Joined-h) → c.if-both.t ≡ sent (loads c.loop-left.t) c.loop-left.t
+heard-by : (c : Joined-h) → c.if-loads.t ≡ sent (loads c.loop-left.t) c.loop-left.t
     → c.if-h.t ≡ heard_by c.listen-h.result.ended (sent (loads c.loop-left.t) c.loop-left.t) c.listen-h.result
 heard-by c e =
     let t = c.loop-left.t in
     let s = sent (loads t) t in
     let h = c.listen-h.result in
     let f = t.fifo in
-    let u = c.if-both.t in
+    let u = c.if-loads.t in
     let put : Bool → State → State =
     λ full u. with_kept
     (with_latches (with_rx (with_receiver u h.receiver) (put_entry (capacity f) u.rx (entering f h.entry)))
@@ -115,7 +114,7 @@ loop-left-preserved-then-m-gt0 c =
 pub listen-h-requires : goal.listen-h-requires
 listen-h-requires c =
     let t = c.loop-left.t in
-    let same : c.if-both.t.receiver ≡ t.receiver = ap (λ (u : State). u.receiver) (sent-by (goal.at.listen-h-requires c).Joined-both) in
+    let same : c.if-loads.t.receiver ≡ t.receiver = ap (λ (u : State). u.receiver) (sent-by (goal.at.listen-h-requires c).Joined-loads) in
     subst (λ (v : Receiver). Sampling t.inputs.sin v) (sym same) (state_sampling t c.loop-left.invariant.kept)
 
 pub later-l-requires : goal.later-l-requires
@@ -123,14 +122,14 @@ later-l-requires c =
     let t = c.loop-left.t in
     let h = c.listen-h.result in
     let at = goal.at.later-l-requires c in
-    let same = ap (λ (w : State). w.latches.idle) (heard-by at.Joined-h (sent-by at.Joined-both)) ∙ event_idle h.ended t h in
+    let same = ap (λ (w : State). w.latches.idle) (heard-by at.Joined-h (sent-by at.Joined-loads)) ∙ event_idle h.ended t h in
     omega (arith, same, state_idle t c.loop-left.invariant.kept)
 
 pub loop-left-preserved : goal.loop-left-preserved
 unfolding settled
 loop-left-preserved c =
     let at = goal.at.loop-left-preserved c in
-    let e = sent-by at.Joined-both in
+    let e = sent-by at.Joined-loads in
     let t = c.loop-left.t in
     let h = c.listen-h.result in
     let w = c.if-h.t in
@@ -142,7 +141,6 @@ loop-left-preserved c =
     going_once _ _ _ _ c.loop-left.invariant _ c.loop-left-test.true
     (ap (λ (l : Latches). with_latches w l) c.settle_latches-t.ensures
     ∙ ap (λ (l : Latches). settles w l) c.later-l.ensures
-    ∙ ap (λ (b : Bool). settles w (idles b w)) c.both-entered.ensures
     ∙ ap (λ (b : Bool). settles w (idles (entered b) w)) c.is_full-full.ensures
     ∙ ap (λ (u : State). settles w (idles (entered (is_full (capacity t.fifo) u.rx.count)) w)) e
     ∙ ap (λ (x : State). settles x (idles (entered (is_full (capacity t.fifo) t.rx.count)) x)) (heard-by at.Joined-h e)
