@@ -14,7 +14,7 @@ use Rattle.recorder.specs.declared.file.HeaderError.{HeaderError}
 use Rattle.std.specs.Prelude.{map, Option, Some, None, Ok, Err}
 use Rattle.recorder.specs.declared.record.Kind.{Kind}
 use Rattle.recorder.specs.Record.{kind, kind_of, by_kind, room, room_of, good}
-use Rattle.recorder.specs.File.{word_of, words_of, bytes_of, headed, header_of}
+use Rattle.recorder.specs.File.{word_of, words_of, bytes_of, bad_header, headed, header_of}
 
 -- fewer than four bytes make none
 pub no_words : (xs : List ℕ) → length xs < 4 → words_of xs ≡ []
@@ -113,6 +113,12 @@ two-words ws n e k = ap (λ (m : ℕ). take m ws) k ∙ go ws e
     go (a ∷ []) e = absurd (omega arith)
     go (a ∷ b ∷ []) e = refl
     go (a ∷ b ∷ d ∷ ws) e = absurd (omega arith)
+
+-- a refusal has a number
+pub bad_header-some : (error : HeaderError) → 0 < bad_header error
+bad_header-some HeaderError.NoMark = omega arith
+bad_header-some HeaderError.UnknownVersion = omega arith
+bad_header-some HeaderError.CutOff = omega arith
 
 -- The kinds.
 
