@@ -9,8 +9,9 @@ use lib.Seq.{drop-append-le}
 use native.Mathlib.Omega.{arith}
 use borrow.Author.Tests.{ne_eqb}
 use Rattle.flag.proofs.Laws.{cond_map}
-use Rattle.recorder.specs.File.{words_of, known, header_of}
-use Rattle.recorder.specs.declared.file.Header.{Header}
+use Rattle.std.specs.Prelude.{Ok, Err}
+use Rattle.recorder.specs.File.{words_of, known, bad_header, header_of}
+use Rattle.recorder.specs.declared.file.HeaderError.{HeaderError}
 use Rattle.recorder.proofs.Laws.{header_append, no_words, left, length-words, length_left, words_append}
 use Rattle.device.specs.declared.State.{State}
 use Rattle.recorded.specs.Record.{step_of}
@@ -236,12 +237,12 @@ module _ (p : Progress) (go_on : agreeing p.replayed.outcome ≡ true) (r : Read
 
 -- The header.
 
-pub refused_file : (bytes : List ℕ) (number : ℕ) → number ≡ (header_of bytes).number → (number ≡ 0 → ⊥) → capture_of bytes ≡ refused number fresh_of 0
+pub refused_file : (bytes : List ℕ) (error : HeaderError) → header_of bytes ≡ Err error → capture_of bytes ≡ refused (bad_header error) fresh_of 0
 unfolding capture_of
-refused_file bytes number e n = rw (sym e, ne_eqb number 0 n)
+refused_file bytes error e = rw e
 
-pub headed_file : (first rest : List ℕ) (h : Header) → h ≡ header_of first → 8 ≤ length first → h.number ≡ 0 →
-    capture_of (first ++ rest) ≡ records_of h.version fresh_of (drop 8 first ++ rest)
+pub headed_file : (first rest : List ℕ) (version : ℕ) → header_of first ≡ Ok version → 8 ≤ length first →
+    capture_of (first ++ rest) ≡ records_of version fresh_of (drop 8 first ++ rest)
 unfolding capture_of
-headed_file first rest h e long z =
-    rw (header_append first rest long, sym e, z) (ap (records_of h.version fresh_of) (drop-append-le 8 first rest long))
+headed_file first rest version e long =
+    rw (header_append first rest long, e) (ap (records_of version fresh_of) (drop-append-le 8 first rest long))

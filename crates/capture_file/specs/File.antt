@@ -1,6 +1,7 @@
 -- Replay of a whole file, from the fresh state (document 02 a), and of a file that comes in parts.
-use Rattle.std.specs.Prelude.{ℕ, ◌+◌, ◌/◌, ◌%◌, ◌≡◌, true, cond, not, ◌&&◌, List, eqb, length, drop}
-use Rattle.recorder.specs.File.{words_of, known, header_of}
+use Rattle.std.specs.Prelude.{ℕ, ◌+◌, ◌/◌, ◌%◌, ◌≡◌, true, cond, not, ◌&&◌, List, eqb, length, drop, Result, Ok, Err}
+use Rattle.recorder.specs.declared.file.HeaderError.{HeaderError}
+use Rattle.recorder.specs.File.{words_of, known, bad_header, header_of}
 use Rattle.device.specs.declared.State.{State}
 use Rattle.device.specs.State.{fresh_of}
 use Rattle.device.specs.Ranges.{well_formed}
@@ -18,13 +19,14 @@ ended bytes r =
 unfoldable pub records_of : ℕ → State → List ℕ → Replayed
 records_of version s bytes = ended bytes (replay_of version s (words_of bytes))
 
--- a file of these bytes: the records behind a good header
+-- a file by its header: the records behind a good one, or its refusal
+abbrev pub headed : Result ℕ HeaderError → List ℕ → Replayed
+headed (Ok version) bytes = records_of version fresh_of bytes
+headed (Err error) bytes = refused (bad_header error) fresh_of 0
+
+-- a file of these bytes: its header, and the records behind it
 unfoldable pub capture_of : List ℕ → Replayed
-capture_of bytes =
-    let header = header_of bytes in
-    cond (eqb header.number 0)
-    (records_of header.version fresh_of (drop 8 bytes))
-    (refused header.number fresh_of 0)
+capture_of bytes = headed (header_of bytes) (drop 8 bytes)
 
 -- A file that comes in parts.
 

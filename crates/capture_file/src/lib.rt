@@ -25,11 +25,7 @@ pub struct Progress {
 pub fn agreeing(o: Outcome) -> bool
     ensures { result ≡ «is-agreeing» o }
 {
-    match o {
-        Outcome::Agreed => true,
-        Outcome::Differs { .. } => false,
-        Outcome::Refused { .. } => false,
-    }
+    matches!(o, Outcome::Agreed)
 }
 
 // The answer with its place counted from n records earlier.
@@ -82,18 +78,16 @@ pub fn begin(first: &[u8]) -> Progress
     ensures result_value { length first.now < 8 → rest_of result [] ≡ capture_of first.now }
     ensures place_value { result.place ≡ 0 }
 {
-    let h = file::header_of(first);
-    let number = h.number;
-    if number != answer::DONE {
-        return unread(number);
-    }
-    Progress {
-        version: h.version,
-        place: 0,
-        replayed: Replayed {
-            state: device::fresh(),
-            outcome: Outcome::Agreed,
+    match file::header_of(first) {
+        Ok(version) => Progress {
+            version,
+            place: 0,
+            replayed: Replayed {
+                state: device::fresh(),
+                outcome: Outcome::Agreed,
+            },
         },
+        Err(error) => unread(error.number()),
     }
 }
 

@@ -6,9 +6,12 @@ use mathlib.Core.List.{List}
 use lib.Dec.{eqb}
 use lib.ListN.{length, drop}
 use native.Mathlib.Omega.{arith}
-use borrow.Author.Tests.{eq-eqb, eqb-false}
+use borrow.Author.Tests.{eq-eqb}
 use Rattle.recorder.specs.Record.{byte, is_read}
-use Rattle.recorder.specs.File.{words_of, known, header_of}
+use Rattle.std.specs.Prelude.{Result, Ok, Err}
+use Rattle.recorder.specs.declared.file.HeaderError.{HeaderError}
+use Rattle.recorder.proofs.Laws.{bad_header-some}
+use Rattle.recorder.specs.File.{words_of, known, bad_header, header_of}
 use Rattle.device.specs.State.{fresh_of}
 use Rattle.device.specs.declared.State.{State}
 use Rattle.device.specs.Ranges.{well_formed}
@@ -16,7 +19,7 @@ use Rattle.recorded.specs.Record.{model_byte, differing}
 use Rattle.capture.specs.declared.Outcome.{Outcome}
 use Rattle.capture.specs.Replay.{refused, malformed, replay_from, replay_of}
 use Rattle.capture.specs.Replay.{agreeing}
-use Rattle.capture_file.specs.File.{later, onward, ended, records_of, capture_of, rest_of}
+use Rattle.capture_file.specs.File.{later, onward, ended, records_of, capture_of, rest_of, headed}
 use Rattle.capture.specs.declared.Replayed.{Replayed}
 use Rattle.capture_file.specs.declared.Progress.{Progress}
 use Rattle.capture.proofs.Ways.{each_way}
@@ -76,12 +79,11 @@ records_of_told version s bytes = ended_told bytes (replay_of version s (words_o
 
 pub capture_told : (bytes : List ℕ) → Told (capture_of bytes).outcome
 unfolding capture_of
-capture_told bytes = go (eqb (header_of bytes).number 0) refl
+capture_told bytes = go (header_of bytes)
   where
-    go : (b : Bool) → eqb (header_of bytes).number 0 ≡ b →
-        Told (cond b (records_of (header_of bytes).version fresh_of (drop 8 bytes)) (refused (header_of bytes).number fresh_of 0)).outcome
-    go true e = records_of_told (header_of bytes).version fresh_of (drop 8 bytes)
-    go false e = refused_told (header_of bytes).number 0 0 (omega (arith, eqb-false (header_of bytes).number 0 e))
+    go : (h : Result ℕ HeaderError) → Told (headed h (drop 8 bytes)).outcome
+    go (Ok version) = records_of_told version fresh_of (drop 8 bytes)
+    go (Err error) = refused_told (bad_header error) 0 0 (bad_header-some error)
 
 pub rest_told : (p : Progress) (bytes : List ℕ) → Told p.replayed.outcome → Told (rest_of p bytes).outcome
 unfolding rest_of

@@ -101,14 +101,12 @@ fn replay_blocks(p: capture_file::Progress, bytes: &[u8]) -> capture_file::Progr
     ensures place_bound { result.place ≤ p.place + length bytes.now / 4 }
 {
     let mut records = [0u32; 4096];
+    let (blocks, rest) = bytes.as_chunks::<BLOCK>();
     let mut q = p;
-    let mut at: usize = 0;
-    while BLOCK <= bytes.len() - at {
-        let end = at + BLOCK;
-        q = capture_file::go_on(q, &bytes[at..end], &mut records);
-        at = end;
+    for block in blocks {
+        q = capture_file::go_on(q, block, &mut records);
     }
-    capture_file::go_on(q, &bytes[at..], &mut records)
+    capture_file::go_on(q, rest, &mut records)
 }
 
 // A file that would have more than the most records is refused, and the state is as it was.

@@ -26,13 +26,6 @@ pub struct Expected {
     pub state: State,
 }
 
-// The smaller of two numbers.
-fn smaller(a: usize, b: usize) -> usize
-    ensures { result ≡ min a b }
-{
-    if a < b { a } else { b }
-}
-
 // The number at the place where records are no longer written: 0 behind the last, else that of a bad
 // record, or of one for which no word is left.
 fn number_at(records: &[u32], place: usize) -> u8
@@ -55,7 +48,7 @@ fn expect_records(s: State, records: &[u32], words: &mut [u32]) -> Expected
     ensures state_value { well_formed result.state ≡ true }
     ensures count_in_bounds { result.count ≤ length words.new }
 {
-    let n = smaller(records.len(), words.len());
+    let n = records.len().min(words.len());
     let stop = sequence::follow(s, &records[..n], words, false);
     let place = stop.place;
     let state = stop.state;

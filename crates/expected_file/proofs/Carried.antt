@@ -10,14 +10,16 @@ use native.Mathlib.Omega.{arith}
 use borrow.Author.Tests.{eq-eqb, ne_eqb, eqb-true}
 use Rattle.flag.proofs.Laws.{cond_map, cond_same}
 use Rattle.recorder.specs.Record.{good}
-use Rattle.recorder.specs.File.{words_of, bytes_of, known, header_of}
-use Rattle.recorder.proofs.Laws.{no_words, left, length-words, length_left, words_append, header_long, header_append}
+use Rattle.std.specs.Prelude.{Result, Ok, Err}
+use Rattle.recorder.specs.declared.file.HeaderError.{HeaderError}
+use Rattle.recorder.specs.File.{words_of, bytes_of, known, bad_header, header_of}
+use Rattle.recorder.proofs.Laws.{no_words, left, length-words, length_left, words_append, header_long, header_append, bad_header-some}
 use Rattle.device.specs.declared.State.{State}
 use Rattle.device.specs.Ranges.{well_formed, part_of}
 use Rattle.recorded.specs.Record.{step_of, expected}
 use Rattle.expected.specs.Expected.{Written, stopping, writing, expect_from, expect_of}
 use Rattle.expected_file.specs.declared.Progress.{Progress}
-use Rattle.expected_file.specs.File.{Made, made_of, after, ended, records_of, expected_of, begun_of, made_by, rest_of, Ready}
+use Rattle.expected_file.specs.File.{Made, made_of, after, ended, records_of, expected_of, begun_of, made_by, rest_of, Ready, headed, begun_by}
 
 -- What is made of a run of records, whatever the words of the second run are where these are enough.
 
@@ -263,15 +265,30 @@ module _ (p : Progress) (z : p.number ≡ 0) (r : Ready p) where
 
 -- The header.
 
-pub headed_file : (first rest : List ℕ) → (header_of first).number ≡ 0 →
+pub begun_long : (first : List ℕ) → (begun_of first).number ≡ 0 → 8 ≤ length first
+begun_long first z = go (header_of first) refl z
+  where
+    go : (h : Result ℕ HeaderError) → header_of first ≡ h → (begun_by h).number ≡ 0 → 8 ≤ length first
+    go (Ok version) e z = header_long first version e
+    go (Err error) e z = absurd (omega (arith, z, bad_header-some error))
+
+pub headed_file : (first rest : List ℕ) → (begun_of first).number ≡ 0 →
     after (take 8 first) (rest_of (begun_of first) (drop 8 first ++ rest)) ≡ expected_of (first ++ rest)
 unfolding expected_of
-headed_file first rest z =
-    let long : 8 ≤ length first = header_long first z in
-    ap (after (take 8 first)) (rest_records (begun_of first) (drop 8 first ++ rest) (eq-eqb _ _ z))
-    ∙ sym (rw (header_append first rest long, z, take-append-le 8 first rest long, drop-append-le 8 first rest long))
+headed_file first rest z = go (header_of first) refl z
+  where
+    go : (h : Result ℕ HeaderError) → header_of first ≡ h → (begun_by h).number ≡ 0 →
+        after (take 8 first) (rest_of (begun_by h) (drop 8 first ++ rest)) ≡ headed (header_of (first ++ rest)) (first ++ rest)
+    go (Ok version) e z =
+        let long : 8 ≤ length first = header_long first version e in
+        ap (after (take 8 first)) (rest_records (begun_by (Ok version)) (drop 8 first ++ rest) refl)
+        ∙ sym (rw (header_append first rest long, e, take-append-le 8 first rest long, drop-append-le 8 first rest long))
+    go (Err error) e z = absurd (omega (arith, z, bad_header-some error))
 
-pub refused_file : (first bytes rest : List ℕ) → header_of bytes ≡ header_of first → ((header_of first).number ≡ 0 → ⊥) → rest_of (begun_of first) rest ≡ expected_of bytes
+pub refused_file : (first bytes rest : List ℕ) → header_of bytes ≡ header_of first → ((begun_of first).number ≡ 0 → ⊥) → rest_of (begun_of first) rest ≡ expected_of bytes
 unfolding expected_of
-refused_file first bytes rest e n =
-    rest-none (begun_of first) rest (ne_eqb _ _ n) ∙ sym (rw (e, ne_eqb (header_of first).number 0 n))
+refused_file first bytes rest e n = go (header_of first) refl n
+  where
+    go : (h : Result ℕ HeaderError) → header_of first ≡ h → ((begun_by h).number ≡ 0 → ⊥) → rest_of (begun_by h) rest ≡ headed (header_of bytes) bytes
+    go (Ok version) q n = absurd (n refl)
+    go (Err error) q n = rest-none (begun_by (Err error)) rest (ne_eqb _ _ n) ∙ sym (rw (e, q))

@@ -1,6 +1,7 @@
 -- The capture expected for a whole file, from the fresh state (document 02 f), and for a file that comes in parts.
-use Rattle.std.specs.Prelude.{ℕ, ◌%◌, ◌≡◌, true, cond, not, ◌&&◌, List, [], ◌++◌, eqb, length, take, drop}
-use Rattle.recorder.specs.File.{words_of, bytes_of, known, header_of}
+use Rattle.std.specs.Prelude.{ℕ, ◌%◌, ◌≡◌, true, cond, not, ◌&&◌, List, [], ◌++◌, eqb, length, take, drop, Result, Ok, Err}
+use Rattle.recorder.specs.declared.file.HeaderError.{HeaderError}
+use Rattle.recorder.specs.File.{words_of, bytes_of, known, bad_header, header_of}
 use Rattle.device.specs.declared.State.{State}
 use Rattle.device.specs.State.{fresh_of}
 use Rattle.device.specs.Ranges.{well_formed}
@@ -40,20 +41,24 @@ ended bytes m =
 unfoldable pub records_of : ℕ → State → List ℕ → Made
 records_of version s bytes = ended bytes (made_of (expect_of version s (words_of bytes) (words_of bytes)))
 
--- a file of these bytes: the header as it is and then the records, nothing where the header is refused
+-- a file by its header: a good one as it is and then the records, nothing where it is refused
+abbrev pub headed : Result ℕ HeaderError → List ℕ → Made
+headed (Ok version) bytes = after (take 8 bytes) (records_of version fresh_of (drop 8 bytes))
+headed (Err error) bytes = record { number = bad_header error; part = 0; state = fresh_of; bytes = [] }
+
+-- a file of these bytes: its header, and the records behind it
 unfoldable pub expected_of : List ℕ → Made
-expected_of bytes =
-    let header = header_of bytes in
-    cond (eqb header.number 0)
-    (after (take 8 bytes) (records_of header.version fresh_of (drop 8 bytes)))
-    (record { number = header.number; part = 0; state = fresh_of; bytes = [] })
+expected_of bytes = headed (header_of bytes) bytes
 
 -- A file that comes in parts.
 
 -- the file that begins with these bytes: its header, judged, and the fresh state
+abbrev pub begun_by : Result ℕ HeaderError → Progress
+begun_by (Ok version) = record { number = 0; part = 0; version = version; count = 0; state = fresh_of }
+begun_by (Err error) = record { number = bad_header error; part = 0; version = 0; count = 0; state = fresh_of }
+
 abbrev pub begun_of : List ℕ → Progress
-begun_of bytes =
-    record { number = (header_of bytes).number; part = 0; version = (header_of bytes).version; count = 0; state = fresh_of }
+begun_of bytes = begun_by (header_of bytes)
 
 -- what is made of a file that stands here, with the bytes written last
 abbrev pub made_by : Progress → List ℕ → Made

@@ -4,6 +4,7 @@
 #![tactic(auto)]
 
 ghost use Rattle.std.specs.Prelude.{◌≡◌, List, [], ◌++◌, ℕ, ◌*◌, ◌/◌, ◌≤◌, ◌<◌, length, take, drop};
+ghost use Rattle.device.specs.State.{fresh_of};
 ghost use Rattle.expected_file.specs.File.{after, expected_of, begun_of, made_by, rest_of, Ready};
 
 use device::State;
@@ -26,6 +27,19 @@ pub struct Progress {
     pub state: State,
 }
 
+// A file whose header is judged, in the fresh state.
+fn begun(number: u8, version: u32) -> Progress
+    ensures { result ≡ record { number = number; part = 0; version = version; count = 0; state = fresh_of } }
+{
+    Progress {
+        number,
+        part: NONE,
+        version,
+        count: 0,
+        state: device::fresh(),
+    }
+}
+
 // The file that begins with these bytes: their first eight are its header, and the records' bytes
 // follow. Where they are fewer they are all of the file.
 pub fn begin(first: &[u8]) -> Progress
@@ -34,13 +48,9 @@ pub fn begin(first: &[u8]) -> Progress
     ensures rest_value_2 { (result.number ≡ 0 → ⊥) → 8 ≤ length first.now → (rest : List ℕ) → rest_of result rest ≡ expected_of (first.now ++ rest) }
     ensures result_value { length first.now < 8 → rest_of result [] ≡ expected_of first.now }
 {
-    let h = file::header_of(first);
-    Progress {
-        number: h.number,
-        part: NONE,
-        version: h.version,
-        count: 0,
-        state: device::fresh(),
+    match file::header_of(first) {
+        Ok(version) => begun(answer::DONE, version),
+        Err(error) => begun(error.number(), 0),
     }
 }
 

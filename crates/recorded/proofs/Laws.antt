@@ -1,12 +1,15 @@
 -- The step of a record by its kind.
 use Prim.Native.Nat.{ℕ}
-use mathlib.Core.Path.{◌≡◌, refl, sym, ap, ◌∙◌}
+use mathlib.Core.Path.{◌≡◌, refl, sym, ap, subst, ◌∙◌}
 use mathlib.Core.Bool.{Bool, true, false, cond}
 use lib.Dec.{leb, eqb}
 use native.Mathlib.Omega.{arith}
-use borrow.Author.Tests.{le-leb, ne_eqb, eqb-true, not-true}
+use borrow.Author.Tests.{le-leb, ne_eqb}
 use Rattle.flag.proofs.Laws.{by_test}
-use Rattle.recorder.specs.Record.{kind, count, address, byte, sin, modem, is_read}
+use Rattle.recorder.specs.declared.record.Kind.{Kind}
+use Rattle.recorder.proofs.Laws.{Numbered, numbered}
+use Rattle.std.specs.Prelude.{◌<◌, Option, Some, None}
+use Rattle.recorder.specs.Record.{kind, kind_of, count, address, byte, sin, modem}
 use Rattle.device.specs.declared.State.{State}
 use Rattle.device.specs.State.{with_inputs, reset_state}
 use Rattle.device.specs.Ranges.{well_formed}
@@ -20,7 +23,6 @@ use Rattle.invariant.proofs.Settled.{Kept}
 use Rattle.invariant.proofs.Touched.{by_numbers, by_transmit, Touches, numbers-settled, thr_touches}
 use Rattle.invariant.proofs.Steps.{reset_kept, read_kept, write_kept, sin-kept, modem-kept, ticks-kept}
 use Rattle.recorded.specs.Record.{Stepped, step_of}
-use Rattle.recorded.specs.Way.{Way}
 use Rattle.step.proofs.Laws.{settled_thr}
 
 -- No field of a record is out of its call's range.
@@ -33,6 +35,26 @@ sin-fits w = le-leb (sin w) 1 (omega arith)
 
 modem-fits : (w : ℕ) → leb (modem w) 15 ≡ true
 modem-fits w = le-leb (modem w) 15 (omega arith)
+
+-- the number of a known kind, in an arm of a match
+pub kind-known : (w : ℕ) {r : Option Kind} {f k : Kind} → r ≡ kind_of w → r ≡ Some f → f ≡ k → Numbered (Some k) (kind w)
+kind-known w e is same = subst (λ (r : Option Kind). Numbered r (kind w)) (sym e ∙ is ∙ ap Some same) (numbered w)
+
+-- of another kind than a read
+pub kind-unread : (w : ℕ) {r : Option Kind} {f : Kind} → r ≡ kind_of w → r ≡ Some f → (f ≡ Kind.Read → ⊥) → kind w ≡ 1 → ⊥
+kind-unread w {f = f} e is other = go f other (kind-known w e is refl)
+  where
+    go : (f : Kind) → (f ≡ Kind.Read → ⊥) → Numbered (Some f) (kind w) → kind w ≡ 1 → ⊥
+    go Kind.Ticks n k one = omega (arith, k, one)
+    go Kind.Read n k one = n refl
+    go Kind.Write n k one = omega (arith, k, one)
+    go Kind.Sin n k one = omega (arith, k, one)
+    go Kind.Modem n k one = omega (arith, k, one)
+    go Kind.Reset n k one = omega (arith, k, one)
+
+-- of no known kind
+pub kind-none : (w : ℕ) {r : Option Kind} → r ≡ kind_of w → r ≡ None → 5 < kind w
+kind-none w e is = subst (λ (r : Option Kind). Numbered r (kind w)) (sym e ∙ is) (numbered w)
 
 -- The step of a record by its kind.
 
@@ -82,37 +104,6 @@ module _ (s : State) (w : ℕ) (f : well_formed s ≡ true) where
     where
       P : Stepped → Type 0
       P r = r.shown ≡ record { byte = 0 }
-
--- The ways of a record.
-
-module _ (s : State) (w : ℕ) where
-  pub nothing_way : (step_of s w).state ≡ s → Way s w 0
-  nothing_way e =
-      record { most = omega arith; nothing = λ _. e; numbers = λ z. absurd (omega arith); transmit = λ z. absurd (omega arith); read = λ z. absurd (omega arith); ticks = λ z. absurd (omega arith); other = λ z. absurd (omega arith) }
-
-  pub numbers_way : kind w ≡ 2 → reaches_queue s (address w) ≡ false → Way s w 1
-  numbers_way k h =
-      record { most = omega arith; nothing = λ z. absurd (omega arith); numbers = λ _. (k, h); transmit = λ z. absurd (omega arith); read = λ z. absurd (omega arith); ticks = λ z. absurd (omega arith); other = λ z. absurd (omega arith) }
-
-  pub transmit_way : kind w ≡ 2 → (address w ≡ 2 → ⊥) → reaches_queue s (address w) ≡ true → Way s w 2
-  transmit_way k n h =
-      record { most = omega arith; nothing = λ z. absurd (omega arith); numbers = λ z. absurd (omega arith); transmit = λ _. let x = go (eqb (address w) 0) refl in (k, x.0, x.1); read = λ z. absurd (omega arith); ticks = λ z. absurd (omega arith); other = λ z. absurd (omega arith) }
-    where
-      go : (z : Bool) → eqb (address w) 0 ≡ z → (address w ≡ 0) × (divisor_access s.registers ≡ false)
-      go true e = (eqb-true (address w) 0 e, not-true (divisor_access s.registers) (simp e at h))
-      go false e = absurd (n (eqb-true (address w) 2 (simp e at h)))
-
-  pub read_way : is_read w ≡ true → Way s w 3
-  read_way e =
-      record { most = omega arith; nothing = λ z. absurd (omega arith); numbers = λ z. absurd (omega arith); transmit = λ z. absurd (omega arith); read = λ _. e; ticks = λ z. absurd (omega arith); other = λ z. absurd (omega arith) }
-
-  pub ticks_way : kind w ≡ 0 → Way s w 4
-  ticks_way k =
-      record { most = omega arith; nothing = λ z. absurd (omega arith); numbers = λ z. absurd (omega arith); transmit = λ z. absurd (omega arith); read = λ z. absurd (omega arith); ticks = λ _. k; other = λ z. absurd (omega arith) }
-
-  pub other_way : (kind w ≡ 0 → ⊥) → (kind w ≡ 1 → ⊥) → Way s w 5
-  other_way n0 n1 =
-      record { most = omega arith; nothing = λ z. absurd (omega arith); numbers = λ z. absurd (omega arith); transmit = λ z. absurd (omega arith); read = λ z. absurd (omega arith); ticks = λ z. absurd (omega arith); other = λ _. (n0, n1) }
 
 -- a write to THR sets the transmit queue and the latches
 pub thr_step : (s : State) (w : ℕ) → well_formed s ≡ true → (kind w ≡ 2) × (address w ≡ 0) × (divisor_access s.registers ≡ false) → (step_of s w).state ≡ thr_write s (byte w)

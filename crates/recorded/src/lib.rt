@@ -8,32 +8,24 @@ ghost use Rattle.device.specs.Ranges.{well_formed};
 ghost use Rattle.device.specs.Lcr.{divisor_access};
 ghost use Rattle.invariant.specs.Touch.{reaches_queue, numbers_of};
 ghost use Rattle.recorded.specs.Record.{step_of, model_byte, expected};
-ghost use Rattle.recorded.specs.Way.{Way};
+ghost use Rattle.recorded.specs.Way.{IsWay};
 
-use device::{Latches, Numbers, State};
-use queue::ByteQueue;
+use device::{Numbers, State};
+use fifos::thr::Queued;
 use recorder::record;
+use recorder::record::Kind;
 use sheet::bits;
 
 // The ways of a record: it changes nothing, is a write that reaches no queue, a write to THR, a read
 // that may change the state, ticks, or any other record.
-pub const NOTHING: u8 = 0;
-
-pub const NUMBERS: u8 = 1;
-
-pub const TRANSMIT: u8 = 2;
-
-pub const READ: u8 = 3;
-
-pub const TICKS: u8 = 4;
-
-pub const OTHER: u8 = 5;
-
-// What a write to THR sets: the transmit queue and the latches.
-#[derive(Clone, Copy)]
-pub struct Queued {
-    pub tx: ByteQueue,
-    pub latches: Latches,
+#[derive(Clone, Copy, PartialEq, Eq)]
+pub enum Way {
+    Nothing,
+    Numbers,
+    Transmit,
+    Read,
+    Ticks,
+    Other,
 }
 
 // The record that the model expects: a read with its byte, any other record as it stands.
@@ -42,55 +34,52 @@ pub fn expects(s: State, w: u32) -> u32
     ensures value { result ≡ expected s w }
     ensures w_bound { model_byte s w < 256 }
 {
-    if record::kind(w) != record::READ {
-        return w;
+    match Kind::of(w) {
+        Some(Kind::Read) => record::with_byte(w, bus::value(s, record::address(w))),
+        _ => w,
     }
-    record::with_byte(w, bus::value(s, record::address(w)))
 }
 
 // Whether a read may change the state.
-fn way_of_read(s: State, w: u32) -> u8
+fn way_of_read(s: State, w: u32) -> Way
     requires s_value { well_formed s ≡ true }
     requires w_value { is_read w ≡ true }
-    ensures { Way s w result }
+    ensures { IsWay s w result }
 {
     if bus::read_changes(s, record::address(w)) {
-        return READ;
+        return Way::Read;
     }
-    NOTHING
+    Way::Nothing
 }
 
 // What a write reaches.
-fn way_of_write(s: State, w: u32) -> u8
+fn way_of_write(s: State, w: u32) -> Way
     requires { «kind-of» w ≡ 2 }
-    ensures { Way s w result }
+    ensures { IsWay s w result }
 {
     let address = record::address(w);
     if address == bits::FCR {
-        return OTHER;
+        return Way::Other;
     }
     if bus::reaches_queue(s, address) {
-        return TRANSMIT;
+        return Way::Transmit;
     }
-    NUMBERS
+    Way::Numbers
 }
 
-// The way of a record.
-pub fn way(s: State, w: u32) -> u8
-    requires { well_formed s ≡ true }
-    ensures { Way s w result }
-{
-    let kind = record::kind(w);
-    if kind == record::READ {
-        return way_of_read(s, w);
+impl Way {
+    // The way of a record.
+    pub fn of(s: State, w: u32) -> Way
+        requires { well_formed s ≡ true }
+        ensures { IsWay s w result }
+    {
+        match Kind::of(w) {
+            Some(Kind::Read) => way_of_read(s, w),
+            Some(Kind::Write) => way_of_write(s, w),
+            Some(Kind::Ticks) => Way::Ticks,
+            _ => Way::Other,
+        }
     }
-    if kind == record::WRITE {
-        return way_of_write(s, w);
-    }
-    if kind == record::TICKS {
-        return TICKS;
-    }
-    OTHER
 }
 
 // The numbers after a write that reaches no queue.
@@ -108,10 +97,7 @@ pub fn transmit(s: State, w: u32) -> Queued
     requires w_value { («kind-of» w ≡ 2) × («address-of» w ≡ 0) × (divisor_access s.registers ≡ false) }
     ensures { result ≡ record { tx = (step_of s w).state.tx; latches = (step_of s w).state.latches } }
 {
-    Queued {
-        tx: queue::bytes::put(s.tx, settings::fifo::capacity(s.fifo), record::byte(w)),
-        latches: device::with_empty(s.latches, 0),
-    }
+    step::put(s, record::byte(w))
 }
 
 // The state after a read.
@@ -138,11 +124,11 @@ pub fn other(s: State, w: u32) -> State
     requires fact { («kind-of» w ≡ 0 → ⊥) × («kind-of» w ≡ 1 → ⊥) }
     ensures { result ≡ (step_of s w).state }
 {
-    match record::kind(w) {
-        record::WRITE => step::write(s, record::address(w), record::byte(w)),
-        record::SIN => step::set_sin(s, record::sin(w)),
-        record::MODEM => step::set_modem(s, record::modem(w)),
-        record::RESET => step::reset(s),
+    match Kind::of(w) {
+        Some(Kind::Write) => step::write(s, record::address(w), record::byte(w)),
+        Some(Kind::Sin) => step::set_sin(s, record::sin(w)),
+        Some(Kind::Modem) => step::set_modem(s, record::modem(w)),
+        Some(Kind::Reset) => step::reset(s),
         _ => s,
     }
 }

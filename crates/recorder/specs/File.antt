@@ -1,7 +1,7 @@
 -- The recorder's file (document 02 a): the three letters UTR, a zero byte, a 16-bit version, a 16-bit zero, then the
 -- records, all little-endian.
-use Rattle.std.specs.Prelude.{ℕ, ◌+◌, ◌*◌, ◌/◌, ◌%◌, ◌^◌, Bool, cond, ◌&&◌, List, [], ◌∷◌, eqb, take}
-use Rattle.recorder.specs.declared.file.Header.{Header}
+use Rattle.std.specs.Prelude.{ℕ, ◌+◌, ◌*◌, ◌/◌, ◌%◌, ◌^◌, Bool, cond, ◌&&◌, List, [], ◌∷◌, eqb, take, Result, Ok, Err}
+use Rattle.recorder.specs.declared.file.HeaderError.{HeaderError}
 
 -- four bytes as a word, little-endian
 abbrev pub word_of : ℕ → ℕ → ℕ → ℕ → ℕ
@@ -40,20 +40,21 @@ good_header first second = eqb first mark && eqb (pad second) 0
 abbrev pub known : ℕ → Bool
 known v = eqb v 1
 
--- a header that is refused
-abbrev pub bad_header : ℕ → Header
-bad_header number = record { number = number; version = 0 }
+-- the number of a refusal: 6 for a bad mark or a nonzero pad, 7 for an unknown version, 8 for a header that is cut off
+abbrev pub bad_header : HeaderError → ℕ
+bad_header HeaderError.NoMark = 6
+bad_header HeaderError.UnknownVersion = 7
+bad_header HeaderError.CutOff = 8
 
--- the words of a header: 8 where they are not two, then 6 for a bad mark or a nonzero pad, then 7 for an unknown
--- version
-abbrev pub headed : List ℕ → Header
-headed [] = bad_header 8
-headed (first ∷ []) = bad_header 8
+-- the words of a header, its version: cut off where they are not two, then the mark and the pad, then the version
+abbrev pub headed : List ℕ → Result ℕ HeaderError
+headed [] = Err HeaderError.CutOff
+headed (first ∷ []) = Err HeaderError.CutOff
 headed (first ∷ second ∷ more) =
     cond (good_header first second)
-    (cond (known (version second)) (record { number = 0; version = version second }) (bad_header 7))
-    (bad_header 6)
+    (cond (known (version second)) (Ok (version second)) (Err HeaderError.UnknownVersion))
+    (Err HeaderError.NoMark)
 
 -- the header of a file that begins with these bytes: its first eight
-unfoldable pub header_of : List ℕ → Header
+unfoldable pub header_of : List ℕ → Result ℕ HeaderError
 header_of bytes = headed (words_of (take 8 bytes))

@@ -1,6 +1,7 @@
 -- A record of the recorder, a word of 32 bits (document 02 a): the kind in bits 31..28; ticks: count in bits 0..15;
 -- read and write: address in 8..10, byte in 0..7; SIN: bit 0; modem pins: bits 0..3; reset; all other bits zero.
-use Rattle.std.specs.Prelude.{ℕ, ◌+◌, ◌*◌, ◌/◌, ◌%◌, ◌^◌, Bool, cond, ltb, eqb}
+use Rattle.std.specs.Prelude.{ℕ, ◌+◌, ◌*◌, ◌/◌, ◌%◌, ◌^◌, Bool, cond, ltb, eqb, Option, Some, None}
+use Rattle.recorder.specs.declared.record.Kind.{Kind}
 
 -- bits 31..28
 abbrev pub kind : ℕ → ℕ
@@ -12,6 +13,18 @@ by_kind k ticks read write sin modem reset other =
     cond (eqb k 0) ticks
     (cond (eqb k 1) read
     (cond (eqb k 2) write (cond (eqb k 3) sin (cond (eqb k 4) modem (cond (eqb k 5) reset other)))))
+
+-- the known kind that it is, if it is one
+abbrev pub kind_of : ℕ → Option Kind
+kind_of w =
+    by_kind (kind w)
+    (Some Kind.Ticks)
+    (Some Kind.Read)
+    (Some Kind.Write)
+    (Some Kind.Sin)
+    (Some Kind.Modem)
+    (Some Kind.Reset)
+    None
 
 -- the count of ticks
 abbrev pub count : ℕ → ℕ
@@ -36,6 +49,15 @@ modem w = w % 2 ^ 4
 -- what bits 27..0 stay below where no stray bit is set; 0 for any other kind, so that no such record is good
 abbrev pub room : ℕ → ℕ
 room k = by_kind k (2 ^ 16) (2 ^ 11) (2 ^ 11) 2 (2 ^ 4) 1 0
+
+-- the same of a known kind
+abbrev pub room_of : Kind → ℕ
+room_of Kind.Ticks = 2 ^ 16
+room_of Kind.Read = 2 ^ 11
+room_of Kind.Write = 2 ^ 11
+room_of Kind.Sin = 2
+room_of Kind.Modem = 2 ^ 4
+room_of Kind.Reset = 1
 
 -- a known kind, and no stray bit
 unfoldable pub good : ℕ → Bool

@@ -1,24 +1,32 @@
 // The file: words of its bytes and bytes of its words, and its header.
 ghost use Rattle.std.specs.Prelude.{◌≡◌, [], ◌∷◌, ◌≤◌, ◌*◌, ◌/◌, length, take, drop};
-ghost use Rattle.recorder.specs.File.{word_of, words_of, bytes_of, good_header, version as «version_of», known as «known-version», bad_header, headed as headed_of, header_of};
+ghost use Rattle.recorder.specs.File.{words_of, bytes_of, good_header, version as «version_of», known as «known-version», bad_header, headed as headed_of, header_of};
 
 use sheet::answer;
 
 // U, T, R and a zero byte.
 const MARK: u32 = 5395541;
 
-// What a header says: the number of a refusal, or the version.
-#[derive(Clone, Copy)]
-pub struct Header {
-    pub number: u8,
-    pub version: u32,
+// Why a header is refused: the mark is bad or the pad is not zero, the version is not known, or the
+// file ends within it.
+#[derive(Clone, Copy, PartialEq, Eq)]
+pub enum HeaderError {
+    NoMark,
+    UnknownVersion,
+    CutOff,
 }
 
-// Four bytes as a word, little-endian.
-fn word(a: u8, b: u8, c: u8, d: u8) -> u32
-    ensures { result ≡ word_of a b c d }
-{
-    a as u32 + b as u32 * 256 + c as u32 * 65536 + d as u32 * 16777216
+impl HeaderError {
+    // The number of the refusal.
+    pub fn number(self) -> u8
+        ensures { result ≡ bad_header self }
+    {
+        match self {
+            HeaderError::NoMark => answer::BAD_HEADER,
+            HeaderError::UnknownVersion => answer::UNKNOWN_VERSION,
+            HeaderError::CutOff => answer::BAD_RECORD,
+        }
+    }
 }
 
 // Puts the whole words of bytes at the start of words, and answers how many they are.
@@ -29,14 +37,11 @@ pub fn decode(bytes: &[u8], words: &mut [u32]) -> usize
     ensures upper_bound { result ≤ length words.new }
     ensures value_2 { result ≡ length (take result words.new) }
 {
-    let n = bytes.len() / 4;
-    let mut i: usize = 0;
-    while i < n {
-        let at = 4 * i;
-        words[i] = word(bytes[at], bytes[at + 1], bytes[at + 2], bytes[at + 3]);
-        i += 1;
+    let (quads, _) = bytes.as_chunks::<4>();
+    for (i, &quad) in quads.iter().enumerate() {
+        words[i] = u32::from_le_bytes(quad);
     }
-    n
+    quads.len()
 }
 
 // Puts the bytes of words, little-endian, at the start of bytes.
@@ -45,15 +50,8 @@ pub fn encode(words: &[u32], bytes: &mut [u8])
     ensures bytes_after { take (4 * length words.now) bytes.new ≡ bytes_of words.now }
     ensures bytes_unchanged { drop (4 * length words.now) bytes.new ≡ drop (4 * length words.now) bytes.old }
 {
-    let mut i: usize = 0;
-    while i < words.len() {
-        let at = 4 * i;
-        let w = words[i];
-        bytes[at] = (w % 256) as u8;
-        bytes[at + 1] = (w / 256 % 256) as u8;
-        bytes[at + 2] = (w / 65536 % 256) as u8;
-        bytes[at + 3] = (w / 16777216 % 256) as u8;
-        i += 1;
+    for (i, w) in words.iter().enumerate() {
+        bytes[4 * i..4 * i + 4].copy_from_slice(&w.to_le_bytes());
     }
 }
 
@@ -61,7 +59,7 @@ pub fn encode(words: &[u32], bytes: &mut [u8])
 fn good_header(first: u32, second: u32) -> bool
     ensures { result ≡ good_header first second }
 {
-    flag::both(first == MARK, second / 65536 == 0)
+    first == MARK && second / 65536 == 0
 }
 
 // The version in a header's second word.
@@ -78,36 +76,26 @@ pub fn known(version: u32) -> bool
     version == 1
 }
 
-// A header that is refused.
-fn bad_header(number: u8) -> Header
-    ensures { result ≡ bad_header number }
-{
-    Header { number, version: 0 }
-}
-
-// The header of these two words.
-fn headed(first: u32, second: u32) -> Header
+// The version in the header of these two words.
+fn headed(first: u32, second: u32) -> Result<u32, HeaderError>
     ensures { result ≡ headed_of (first ∷ second ∷ []) }
 {
     if !good_header(first, second) {
-        return bad_header(answer::BAD_HEADER);
+        return Err(HeaderError::NoMark);
     }
     let v = version(second);
     if !known(v) {
-        return bad_header(answer::UNKNOWN_VERSION);
+        return Err(HeaderError::UnknownVersion);
     }
-    Header {
-        number: answer::DONE,
-        version: v,
-    }
+    Ok(v)
 }
 
-// The header of a file that begins with these bytes.
-pub fn header_of(first: &[u8]) -> Header
+// The version in the header of a file that begins with these bytes.
+pub fn header_of(first: &[u8]) -> Result<u32, HeaderError>
     ensures { result ≡ header_of first.now }
 {
     if first.len() < 8 {
-        return bad_header(answer::BAD_RECORD);
+        return Err(HeaderError::CutOff);
     }
     let mut words = [0u32; 2];
     decode(&first[..8], &mut words);

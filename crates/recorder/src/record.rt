@@ -1,28 +1,50 @@
 // A record: its kind, its fields, and whether it is good.
 ghost use Rattle.std.specs.Prelude.{◌≡◌, ◌<◌};
-ghost use Rattle.recorder.specs.Record.{kind as «kind-of», count as «count_of», address as «address-of», byte as «byte_of», sin as «sin-of», modem as «modem-of», room as «room_of», good as «good_of», with_byte};
-
-// The kinds.
-pub const TICKS: u32 = 0;
-
-pub const READ: u32 = 1;
-
-pub const WRITE: u32 = 2;
-
-pub const SIN: u32 = 3;
-
-pub const MODEM: u32 = 4;
-
-pub const RESET: u32 = 5;
+ghost use Rattle.recorder.specs.Record.{kind_of, count as «count_of», address as «address-of», byte as «byte_of», sin as «sin-of», modem as «modem-of», room_of, good as «good_of», with_byte};
 
 // Where the kind begins: bit 28.
 const KIND: u32 = 268435456;
 
-// The kind.
-pub fn kind(w: u32) -> u32
-    ensures { result ≡ «kind-of» w }
-{
-    w / KIND
+// The kinds.
+#[derive(Clone, Copy, PartialEq, Eq)]
+pub enum Kind {
+    Ticks,
+    Read,
+    Write,
+    Sin,
+    Modem,
+    Reset,
+}
+
+impl Kind {
+    // The kind of a record, if it is a known one.
+    pub fn of(w: u32) -> Option<Kind>
+        ensures { result ≡ kind_of w }
+    {
+        match w / KIND {
+            0 => Some(Kind::Ticks),
+            1 => Some(Kind::Read),
+            2 => Some(Kind::Write),
+            3 => Some(Kind::Sin),
+            4 => Some(Kind::Modem),
+            5 => Some(Kind::Reset),
+            _ => None,
+        }
+    }
+
+    // What the bits below the kind stay below in a good record.
+    fn room(self) -> u32
+        ensures { result ≡ room_of self }
+    {
+        match self {
+            Kind::Ticks => 65536,
+            Kind::Read => 2048,
+            Kind::Write => 2048,
+            Kind::Sin => 2,
+            Kind::Modem => 16,
+            Kind::Reset => 1,
+        }
+    }
 }
 
 // The count of ticks.
@@ -60,26 +82,14 @@ pub fn modem(w: u32) -> u8
     (w % 16) as u8
 }
 
-// What the bits below the kind stay below in a good record of a kind.
-fn room(kind: u32) -> u32
-    ensures { result ≡ «room_of» kind }
-{
-    match kind {
-        TICKS => 65536,
-        READ => 2048,
-        WRITE => 2048,
-        SIN => 2,
-        MODEM => 16,
-        RESET => 1,
-        _ => 0,
-    }
-}
-
 // Whether the kind is known and no stray bit is set.
 pub fn good(w: u32) -> bool
     ensures { result ≡ «good_of» w }
 {
-    w % KIND < room(kind(w))
+    match Kind::of(w) {
+        Some(kind) => w % KIND < kind.room(),
+        None => false,
+    }
 }
 
 // The record with another byte in bits 7..0.

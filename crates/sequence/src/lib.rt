@@ -9,6 +9,7 @@ ghost use Rattle.recorded.specs.Record.{model_byte};
 ghost use Rattle.sequence.specs.Sequence.{good_at, follow_of};
 
 use device::State;
+use recorded::Way;
 use recorder::record;
 
 // Where records are no longer followed: the place of the record, the state before it, and what the
@@ -21,29 +22,25 @@ pub struct Stop {
 }
 
 // Whether a good record stands at a place.
+#[tactic(auto, unfolding(crate::specs::Sequence::good_at))]
 fn good_at(records: &[u32], place: usize) -> bool
     ensures { result ≡ good_at records.now place }
 {
-    if records.len() <= place {
-        return false;
-    }
-    record::good(records[place])
+    place < records.len() && record::good(records[place])
 }
 
 // Whether a record, of which the model expects `expected`, is not followed.
 fn stops(compare: bool, w: u32, expected: u32) -> bool
     ensures { result ≡ (compare && not (eqb expected w)) }
 {
-    if compare {
-        return expected != w;
-    }
-    false
+    compare && expected != w
 }
 
 // Puts a word at a place, if there is one.
 fn put(w: u32, words: &mut [u32], place: usize)
     ensures { words.new ≡ set words.old place w }
 {
+    // Not `get_mut`: what it lends is not tied to the words, so the proof does not close.
     if place < words.len() {
         words[place] = w;
     }
@@ -72,9 +69,9 @@ pub fn follow(s: State, records: &[u32], words: &mut [u32], compare: bool) -> St
             break i;
         }
         put(expected, words, i);
-        match recorded::way(t, w) {
-            recorded::NOTHING => {}
-            recorded::NUMBERS => {
+        match Way::of(t, w) {
+            Way::Nothing => {}
+            Way::Numbers => {
                 let n = recorded::numbers(t, w);
                 let registers = n.registers;
                 let baud = n.baud;
@@ -83,16 +80,16 @@ pub fn follow(s: State, records: &[u32], words: &mut [u32], compare: bool) -> St
                 t.baud = baud;
                 t.latches = latches;
             }
-            recorded::TRANSMIT => {
+            Way::Transmit => {
                 let n = recorded::transmit(t, w);
                 let tx = n.tx;
                 let latches = n.latches;
                 t.tx = tx;
                 t.latches = latches;
             }
-            recorded::READ => t = recorded::after_read(t, w),
-            recorded::TICKS => t = recorded::ticks(t, w),
-            _ => t = recorded::other(t, w),
+            Way::Read => t = recorded::after_read(t, w),
+            Way::Ticks => t = recorded::ticks(t, w),
+            Way::Other => t = recorded::other(t, w),
         }
         i += 1;
     };

@@ -2,8 +2,5 @@
 use Rattle.recorded.proofs.Laws.{write_step}
 use Rattle.recorded.proofs.numbers.Goals as goal
 
-pub numbers-requires : goal.numbers-requires
-numbers-requires c = rw c.address.ensures c.requires.w_value.1
-
 pub returns : goal.returns
 returns c = rw (c.numbers.ensures, c.byte.ensures, c.address.ensures, write_step _ _ c.requires.s_value c.requires.w_value.0)

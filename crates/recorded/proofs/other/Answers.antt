@@ -1,23 +1,29 @@
 -- Each arm is the call that the record stands for, on a well-formed state.
-use Rattle.recorded.proofs.Laws.{write_step, sin_step, modem_step, reset_step, other_step}
-use mathlib.Core.Path.{sym, ◌∙◌}
+use Rattle.std.proofs.Common.{sym, arith}
+use Rattle.recorded.proofs.Laws.{kind-known, kind-none, write_step, sin_step, modem_step, reset_step, other_step}
 use Rattle.recorded.proofs.other.Goals as goal
 
-pub returns-in-2 : goal.returns-in-2
-returns-in-2 c = rw (c.write.ensures, c.byte.ensures, c.address.ensures) (sym (write_step _ _ c.requires.s_value (sym c.kind.ensures ∙ c.in-2.is)))
+pub returns-in-Some-Write : goal.returns-in-Some-Write
+returns-in-Some-Write c =
+    let k = kind-known c.args.w c.of.ensures c.in-Some-Write.is c.in-Some-Write.field-0-is in
+    rw (c.write.ensures, c.byte.ensures, c.address.ensures) (sym (write_step _ _ c.requires.s_value k))
 
-pub returns-in-3 : goal.returns-in-3
-returns-in-3 c = rw (c.set_sin.ensures, c.sin.ensures) (sym (sin_step _ _ c.requires.s_value (sym c.kind.ensures ∙ c.in-3.is)))
+pub returns-in-Some-Sin : goal.returns-in-Some-Sin
+returns-in-Some-Sin c =
+    let k = kind-known c.args.w c.of.ensures c.in-Some-Sin.is c.in-Some-Sin.field-0-is in
+    rw (c.set_sin.ensures, c.sin.ensures) (sym (sin_step _ _ c.requires.s_value k))
 
-pub returns-in-4 : goal.returns-in-4
-returns-in-4 c = rw (c.set_modem.ensures, c.modem.ensures) (sym (modem_step _ _ c.requires.s_value (sym c.kind.ensures ∙ c.in-4.is)))
+pub returns-in-Some-Modem : goal.returns-in-Some-Modem
+returns-in-Some-Modem c =
+    let k = kind-known c.args.w c.of.ensures c.in-Some-Modem.is c.in-Some-Modem.field-0-is in
+    rw (c.set_modem.ensures, c.modem.ensures) (sym (modem_step _ _ c.requires.s_value k))
 
-pub returns-in-5 : goal.returns-in-5
-returns-in-5 c = rw c.reset.ensures (sym (reset_step _ _ c.requires.s_value (sym c.kind.ensures ∙ c.in-5.is)))
+pub returns-in-Some-Reset : goal.returns-in-Some-Reset
+returns-in-Some-Reset c =
+    let k = kind-known c.args.w c.of.ensures c.in-Some-Reset.is c.in-Some-Reset.field-0-is in
+    rw c.reset.ensures (sym (reset_step _ _ c.requires.s_value k))
 
-pub returns-in_default : goal.returns-in_default
-returns-in_default c =
-    let r = c.in_default.in_default-own.rest in
-    let k = c.kind.ensures in
-    let p = c.requires in
-    sym (other_step _ _ p.s_value p.fact.0 p.fact.1 (λ e. r.0.0.0.1 (k ∙ e)) (λ e. r.0.0.1 (k ∙ e)) (λ e. r.0.1 (k ∙ e)) (λ e. r.1 (k ∙ e)))
+pub returns-in_default-2 : goal.returns-in_default-2
+returns-in_default-2 c =
+    let k = kind-none c.args.w c.of.ensures c.in_default.is in
+    sym (other_step _ _ c.requires.s_value (λ e. omega (arith, k, e)) (λ e. omega (arith, k, e)) (λ e. omega (arith, k, e)) (λ e. omega (arith, k, e)) (λ e. omega (arith, k, e)) (λ e. omega (arith, k, e)))

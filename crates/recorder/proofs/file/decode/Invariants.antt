@@ -1,9 +1,6 @@
-use Rattle.recorder.proofs.Laws.{Decoding}
-use Prim.Native.Nat.{◌-◌}
+use Rattle.std.proofs.Common.{◌≡◌, take, map}
+use Rattle.std.specs.Int.{w32, from_le_bytes}
 use Rattle.recorder.proofs.file.decode.Given as goal
 
 abbrev pub invariant-loop-i : goal.invariant-loop-i
-invariant-loop-i l = Decoding l.bytes l.initial.words l.words l.i
-
-abbrev pub decreases-loop-i : goal.decreases-loop-i
-decreases-loop-i l = l.n - l.i
+invariant-loop-i l = take l.i l.words ≡ map (from_le_bytes w32) (take l.i l.quads)

@@ -1,24 +1,19 @@
--- The bytes of the words before `i` are in place.
-use Rattle.recorder.proofs.Laws.{encode_starts, encode_turns, encode_ends}
-use lib.ListN.{length-set}
-use native.Mathlib.Omega.{arith}
-use borrow.Author.Rules.{rules}
+use Rattle.std.proofs.Common.{◌≡◌, ◌∙◌, ℕ, ◌+◌, ◌-◌, ◌*◌, List, length, arith}
+use Rattle.std.proofs.lemmas.Slice.{take-put_mid, drop-put_mid}
+use Rattle.std.proofs.lemmas.Grind.{common_steps}
+use Rattle.recorder.proofs.Laws.{bytes-take}
 use Rattle.recorder.proofs.file.encode.Goals as goal
 
-pub loop-i-init : goal.loop-i-init
-loop-i-init c = (encode_starts _ _, search rules)
-
-pub bounds-bytes-at-in-loop-i : goal.bounds-bytes-at-in-loop-i
-bounds-bytes-at-in-loop-i c = simp length-set (omega arith)
-
-pub bounds-bytes-at-in-loop-i-2 : goal.bounds-bytes-at-in-loop-i-2
-bounds-bytes-at-in-loop-i-2 c = simp length-set (omega arith)
-
-pub bounds-bytes-at-in-loop-i-3 : goal.bounds-bytes-at-in-loop-i-3
-bounds-bytes-at-in-loop-i-3 c = simp length-set (omega arith)
-
 pub loop-i-preserved : goal.loop-i-preserved
-loop-i-preserved c = (encode_turns (omega arith) c.loop-i.invariant.1 c.loop-i.invariant.0, c.loop-i.invariant.1)
-
-pub returns : goal.returns
-returns c = let p = encode_ends c.loop-i.invariant.0 (omega arith) in record { bytes_after = p.done; bytes_unchanged = p.kept }
+loop-i-preserved c =
+    let i : ℕ = c.loop-i.i in
+    let bytes : List ℕ = c.loop-i.bytes in
+    let new : List ℕ = c.copy_from_slice.new.self in
+    let four : length new ≡ 4 = grind (arith, common_steps) in
+    let k : ℕ = 4 * i + 4 - 4 * i in
+    record {
+      written =
+          take-put_mid (4 * i) k bytes new (4 * (i + 1)) (omega arith) (grind arith)
+          ∙ grind (arith, bytes-take c.args.words.now i c.loop-i-test.true);
+      kept = drop-put_mid (4 * i) k bytes new (4 * (i + 1)) (omega arith) (grind arith) (omega arith) ∙ grind (arith, common_steps);
+    }

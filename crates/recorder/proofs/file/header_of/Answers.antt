@@ -1,24 +1,12 @@
 -- The header's words are the first two of the file.
+use Rattle.std.proofs.Common.{◌≤◌, ap, sym, ◌∙◌, length, arith}
 use lib.Seq.{length-take-le}
 use Rattle.recorder.specs.File.{headed, header_of}
 use Rattle.recorder.proofs.Laws.{header_short, two-words}
-use Prim.Native.Nat.{◌≤◌}
-use mathlib.Core.Path.{sym, ap, ◌∙◌}
-use lib.ListN.{length, take, length-take}
-use native.Mathlib.Omega.{arith}
 use Rattle.recorder.proofs.file.header_of.Goals as goal
 
 pub returns-then-first-lt8 : goal.returns-then-first-lt8
-returns-then-first-lt8 c = c.bad_header.ensures ∙ sym (header_short _ (omega (arith, c.if-first-lt8.true)))
-
-pub slice_bounds-decode-end : goal.slice_bounds-decode-end
-slice_bounds-decode-end c = let first = c.args.first.now in sym (length-take-le 8 first (omega (arith, c.if-first-lt8.false)))
-
-pub decode-requires : goal.decode-requires
-decode-requires c =
-    let first = c.args.first.now in
-    let fits : length (take 8 first) ≤ 8 = omega (arith, length-take 8 first) in
-    fits
+returns-then-first-lt8 c = sym (header_short _ c.if-first-lt8.true)
 
 pub returns : goal.returns
 unfolding header_of
