@@ -192,8 +192,7 @@ fn read_numbers(numbers: &[u8], to: &mut [u32]) -> Option<usize>
 }
 
 // The command `load` with these numbers, which are then in `to`.
-fn load(numbers: &[u8], to: &mut [u32]) -> Command
-    requires { length to.old ≡ most_numbers }
+fn load(numbers: &[u8], to: &mut [u32; MOST_NUMBERS]) -> Command
     ensures value { result ≡ look_up table (text "load") («words_of» numbers.now) }
     ensures result_bound { beside result ≤ most_numbers }
     ensures to_after { take (beside result) to.new ≡ take (beside result) (values_of («words_of» numbers.now)) }
@@ -205,8 +204,7 @@ fn load(numbers: &[u8], to: &mut [u32]) -> Command
 }
 
 // The command `replay` with these numbers, which are then in `to`.
-fn replay(numbers: &[u8], to: &mut [u32]) -> Command
-    requires { length to.old ≡ most_numbers }
+fn replay(numbers: &[u8], to: &mut [u32; MOST_NUMBERS]) -> Command
     ensures value { result ≡ look_up table (text "replay") («words_of» numbers.now) }
     ensures result_bound { beside result ≤ most_numbers }
     ensures to_after { take (beside result) to.new ≡ take (beside result) (values_of («words_of» numbers.now)) }
@@ -226,8 +224,7 @@ fn replay(numbers: &[u8], to: &mut [u32]) -> Command
 }
 
 // The command `expect` with these numbers, which are then in `to`.
-fn expect(numbers: &[u8], to: &mut [u32]) -> Command
-    requires { length to.old ≡ most_numbers }
+fn expect(numbers: &[u8], to: &mut [u32; MOST_NUMBERS]) -> Command
     ensures value { result ≡ look_up table (text "expect") («words_of» numbers.now) }
     ensures result_bound { beside result ≤ most_numbers }
     ensures to_after { take (beside result) to.new ≡ take (beside result) (values_of («words_of» numbers.now)) }
@@ -250,8 +247,7 @@ fn expect(numbers: &[u8], to: &mut [u32]) -> Command
 }
 
 // The command of a line, which has no newline. The numbers that stand beside it are in `to`.
-pub fn command_of(line: &[u8], to: &mut [u32]) -> Command
-    requires { length to.old ≡ most_numbers }
+pub fn command_of(line: &[u8], to: &mut [u32; MOST_NUMBERS]) -> Command
     ensures value { result ≡ command_of line.now }
     ensures result_bound { beside result ≤ most_numbers }
     ensures to_after { take (beside result) to.new ≡ operands_of line.now }
