@@ -1,8 +1,8 @@
 -- The table of commands: the row of a word.
 use Rattle.command.specs.declared.Command.{Command}
 use Rattle.command.specs.declared.Call.{Call}
-use Rattle.text.specs.declared.decimal.Number.{Number}
 use Prim.Native.Nat.{ℕ, ◌≤◌, ◌<◌}
+use Rattle.std.proofs.Common.{Some}
 use mathlib.Core.Path.{◌≡◌, sym, ap}
 use mathlib.Core.Bool.{true, false}
 use mathlib.Core.List.{List, [], ◌∷◌}
@@ -24,7 +24,7 @@ no_bare w a b c d e f g = simp (a, b, c, d, e, f, g, cond_same)
 
 -- The words that take one number.
 
-module _ (a : List ℕ) (n : ℕ) (e : number_of a ≡ Number.Value n) where
+module _ (a : List ℕ) (n : ℕ) (e : number_of a ≡ Some n) where
   pub ticks-none : n < 1 → look_up table (text "ticks") (a ∷ []) ≡ Command.Bad
   unfolding look_up table same
   ticks-none h = simp (e, lt-leb _ _ h)
@@ -62,10 +62,10 @@ module _ (a : List ℕ) (n : ℕ) (e : number_of a ≡ Number.Value n) where
   modem_some h k = simp (e, le-leb _ _ h, le-leb _ _ k)
 
 -- none of those whose number may be large, and the number is no byte
-pub no_large : (w a : List ℕ) (n : ℕ) → number_of a ≡ Number.Value n → 255 < n → same w (text "ticks") ≡ false → same w (text "level") ≡ false → same w (text "run") ≡ false → same w (text "jump") ≡ false → same w (text "jumprun") ≡ false → same w (text "replay") ≡ false → Command.Bad ≡ look_up table w (a ∷ [])
+pub no_large : (w a : List ℕ) (n : ℕ) → number_of a ≡ Some n → 255 < n → same w (text "ticks") ≡ false → same w (text "level") ≡ false → same w (text "run") ≡ false → same w (text "jump") ≡ false → same w (text "jumprun") ≡ false → same w (text "replay") ≡ false → Command.Bad ≡ look_up table w (a ∷ [])
 unfolding look_up table are_numbers all_numbers
 no_large w a n e h t l r j k p = simp (e, lt-leb _ _ h, and_false, t, l, r, j, k, p, cond_same)
 
-pub no_one : (w a : List ℕ) (n : ℕ) → number_of a ≡ Number.Value n → same w (text "ticks") ≡ false → same w (text "level") ≡ false → same w (text "run") ≡ false → same w (text "jump") ≡ false → same w (text "jumprun") ≡ false → same w (text "read") ≡ false → same w (text "sin") ≡ false → same w (text "modem") ≡ false → same w (text "replay") ≡ false → Command.Bad ≡ look_up table w (a ∷ [])
+pub no_one : (w a : List ℕ) (n : ℕ) → number_of a ≡ Some n → same w (text "ticks") ≡ false → same w (text "level") ≡ false → same w (text "run") ≡ false → same w (text "jump") ≡ false → same w (text "jumprun") ≡ false → same w (text "read") ≡ false → same w (text "sin") ≡ false → same w (text "modem") ≡ false → same w (text "replay") ≡ false → Command.Bad ≡ look_up table w (a ∷ [])
 unfolding look_up table are_numbers all_numbers
 no_one w a n e t l r j k d s m p = simp (e, t, l, r, j, k, d, s, m, p, cond_same)

@@ -1,8 +1,8 @@
 -- Numbers read one by one into a buffer that has to have room for them.
-use Rattle.text.specs.declared.decimal.Number.{Number}
 use Prim.Native.Nat.{ℕ, suc, ◌+◌, ◌-◌, ◌≤◌, ◌<◌}
+use Rattle.std.proofs.Common.{Option, None, Some, is_some, unwrap_or}
 use mathlib.Core.Path.{◌≡◌, refl, sym, ap, ◌∙◌}
-use mathlib.Core.Bool.{true, false}
+use mathlib.Core.Bool.{Bool, true, false, cond, false≢true}
 use mathlib.Core.List.{List, [], ◌∷◌, ◌++◌}
 use lib.ListN.{length, take, drop, set, length-set, length-drop}
 use lib.Seq.{take_all, take-take, take-suc-set, drop-drop, append_snoc}
@@ -31,12 +31,12 @@ same_test a b c d f g = go (dec_le a b)
         simp (lt-leb _ _ h, lt-leb _ _ m)
 
 -- a first word that is no number
-no_number : (k : ℕ) (w : List ℕ) (ws : List (List ℕ)) → number_of w ≡ Number.Nothing → few_numbers k (w ∷ ws) ≡ false
+no_number : (k : ℕ) (w : List ℕ) (ws : List (List ℕ)) → number_of w ≡ None → few_numbers k (w ∷ ws) ≡ false
 unfolding few_numbers all_numbers
 no_number k w ws e = simp (e, and_false)
 
 -- a first word that is one
-pub one_number : (k n : ℕ) (w : List ℕ) (ws : List (List ℕ)) → number_of w ≡ Number.Value n → 0 < k → few_numbers k (w ∷ ws) ≡ few_numbers (k - 1) ws
+pub one_number : (k n : ℕ) (w : List ℕ) (ws : List (List ℕ)) → number_of w ≡ Some n → 0 < k → few_numbers k (w ∷ ws) ≡ few_numbers (k - 1) ws
 unfolding few_numbers all_numbers
 one_number k n w ws e h =
     simp (e, same_test (suc (length ws)) k (length ws) (k - 1) (λ (p : suc (length ws) ≤ k). omega arith) (λ (p : length ws ≤ k - 1). omega arith))
@@ -55,17 +55,34 @@ none_left k =
     let h : 0 ≤ k = omega arith in
     simp (le-leb _ _ h)
 
-one_value : (n : ℕ) (w : List ℕ) (ws : List (List ℕ)) → number_of w ≡ Number.Value n → values_of (w ∷ ws) ≡ n ∷ values_of ws
+one_value : (n : ℕ) (w : List ℕ) (ws : List (List ℕ)) → number_of w ≡ Some n → values_of (w ∷ ws) ≡ n ∷ values_of ws
 unfolding values_of
 one_value n w ws e = simp e
 
-pub numbers-none : (k : ℕ) (ws : List (List ℕ)) → few_numbers k ws ≡ false → 0 ≡ numbers_in k ws
+-- how many numbers are read
+pub numbers-none : (k : ℕ) (ws : List (List ℕ)) → few_numbers k ws ≡ false → None ≡ numbers_in k ws
 unfolding numbers_in
 numbers-none k ws e = simp e
 
-pub numbers-all : (k : ℕ) (ws : List (List ℕ)) → few_numbers k ws ≡ true → length ws ≡ numbers_in k ws
+pub numbers-all : (k : ℕ) (ws : List (List ℕ)) → few_numbers k ws ≡ true → Some (length ws) ≡ numbers_in k ws
 unfolding numbers_in
 numbers-all k ws e = simp e
+
+pub all_few : (k n : ℕ) (ws : List (List ℕ)) → Some n ≡ numbers_in k ws → (few_numbers k ws ≡ true) × (length ws ≡ n)
+unfolding numbers_in
+all_few k n ws e = go (few_numbers k ws) refl e
+  where
+    go : (t : Bool) → few_numbers k ws ≡ t → Some n ≡ cond t (Some (length ws)) None → (few_numbers k ws ≡ true) × (length ws ≡ n)
+    go true p e = (p, ap (λ (o : Option ℕ). unwrap_or o 0) (sym e))
+    go false p e = absurd (false≢true (sym (ap is_some e)))
+
+pub not_few : (k : ℕ) (ws : List (List ℕ)) → None ≡ numbers_in k ws → few_numbers k ws ≡ false
+unfolding numbers_in
+not_few k ws e = go (few_numbers k ws) refl e
+  where
+    go : (t : Bool) → few_numbers k ws ≡ t → None ≡ cond t (Some (length ws)) None → few_numbers k ws ≡ false
+    go true p e = absurd (false≢true (ap is_some e))
+    go false p e = p
 
 -- Filling: the first i numbers of a line stand in the buffer, and the word of the next begins at `at`.
 pub record Filling (l from to : List ℕ) (at i : ℕ) : Type 0 where
@@ -82,7 +99,7 @@ fill_begins l from =
     record { most = omega arith; inside = omega arith; long = refl; rest = ap (λ (k : ℕ). few_numbers k (words l)) z; count = omega arith; values = refl }
 
 module _ {l from to : List ℕ} {at i : ℕ} where
-  pub fill_ends : Filling l from to at i → length from ≤ i → 0 ≡ numbers_in (length from) (words l)
+  pub fill_ends : Filling l from to at i → length from ≤ i → None ≡ numbers_in (length from) (words l)
   fill_ends f h =
       let z : length from - i ≡ 0 = omega arith in
       let g : Led (drop at l) = led (drop at l) in
@@ -105,14 +122,14 @@ module _ {l from to : List ℕ} {at i : ℕ} where
         let s : at + (end - at + 1) ≡ end + 1 = omega (arith, place) in
         words-part (drop at l) (end - at) (in_word f) k ∙ rw (drop-drop (end - at + 1) at l, s)
 
-    pub fill_no_number : Filling l from to at i → end ≤ length l → number_of (take (end - at) (drop at l)) ≡ Number.Nothing → 0 ≡ numbers_in (length from) (words l)
+    pub fill_no_number : Filling l from to at i → end ≤ length l → number_of (take (end - at) (drop at l)) ≡ None → None ≡ numbers_in (length from) (words l)
     fill_no_number f h e = numbers-none (length from) (words l) (sym f.rest ∙ go (dec_lt end (length l)))
       where
         go : Dec (end < length l) → few_numbers (length from - i) (words (drop at l)) ≡ false
         go (yes k) = ap (few_numbers (length from - i)) (first_part f k) ∙ no_number (length from - i) _ (words (drop (end + 1) l)) e
         go (no n) = ap (few_numbers (length from - i)) (first_whole f (omega (arith, n))) ∙ no_number (length from - i) _ [] e
 
-    module _ (n : ℕ) (said : number_of (take (end - at) (drop at l)) ≡ Number.Value n) where
+    module _ (n : ℕ) (said : number_of (take (end - at) (drop at l)) ≡ Some n) where
       pub fill_turns : Filling l from to at i → i < length from → end < length l → Filling l from (set to i n) (end + 1) (i + 1)
       fill_turns f h k =
           let w : List ℕ = take (end - at) (drop at l) in
@@ -136,7 +153,7 @@ module _ {l from to : List ℕ} {at i : ℕ} where
                 ∙ ap (λ (vs : List ℕ). vs ++ values_of ws) (sym t);
           }
 
-      pub fill_last : Filling l from to at i → i < length from → end ≡ length l → i + 1 ≡ numbers_in (length from) (words l)
+      pub fill_last : Filling l from to at i → i < length from → end ≡ length l → Some (i + 1) ≡ numbers_in (length from) (words l)
       fill_last f h e =
           let w : List ℕ = take (end - at) (drop at l) in
           let p : 0 < length from - i = omega arith in
@@ -147,7 +164,7 @@ module _ {l from to : List ℕ} {at i : ℕ} where
           ∙ ap (few_numbers (length from - i)) (first_whole f e)
           ∙ one_number (length from - i) n w [] said p
           ∙ none_left (length from - i - 1) in
-          d ∙ numbers-all (length from) (words l) a
+          ap Some d ∙ numbers-all (length from) (words l) a
 
       pub fill_all : Filling l from to at i → i < length from → end ≡ length l → take (i + 1) (set to i n) ≡ take (i + 1) (values_of (words l))
       unfolding values_of

@@ -1,5 +1,6 @@
 -- A line that is longer than the longest command is bad: each of its numbers has at most ten digits.
 use Prim.Native.Nat.{ℕ, zero, suc, ◌+◌, ◌-◌, ◌*◌, ◌≤◌, ◌<◌}
+use Rattle.std.proofs.Common.{Option, None, Some, is_some, unwrap_or}
 use mathlib.Core.Path.{◌≡◌, refl, ap, ◌∙◌}
 use mathlib.Core.Bool.{Bool, true, false, cond, not, ◌&&◌, false≢true}
 use mathlib.Core.List.{List, [], ◌∷◌}
@@ -9,13 +10,12 @@ use native.Mathlib.Decide.{dec_le}
 use native.Mathlib.Omega.{arith}
 use borrow.Author.Tests.{lt-leb, leb-true, eqb-true, eqb-false, not-true}
 use Rattle.flag.specs.Flag.{all_of}
-use Rattle.text.specs.declared.decimal.Number.{Number}
 use Rattle.command.specs.declared.Command.{Command}
 use Rattle.text.specs.Text.{text, same}
 use Rattle.text.specs.Decimal.{is_digit, value_after, number_after, number_of}
 use Rattle.text.specs.Words.{joined, words}
 use Rattle.numbers.specs.Numbers.{state_count}
-use Rattle.command.specs.Command.{most_version, most_room, longest_line, ranged, bare, one, leading, two, is_some, value_of, all_numbers, are_numbers, few_numbers, many, listed, table, look_up, by_words, command_of}
+use Rattle.command.specs.Command.{most_version, most_room, longest_line, ranged, bare, one, leading, two, all_numbers, are_numbers, few_numbers, many, listed, table, look_up, by_words, command_of}
 use Rattle.text.proofs.Texts.{same_equal}
 use Rattle.text.proofs.Tests.{and_false, cond_same}
 
@@ -50,23 +50,23 @@ and_both true true e = (refl, refl)
 and_both true false e = absurd (false≢true e)
 and_both false b e = absurd (false≢true e)
 
-if_some : (t : Bool) (x : Number) (n : ℕ) → cond t x Number.Nothing ≡ Number.Value n → (t ≡ true) × (x ≡ Number.Value n)
+if_some : (t : Bool) (x : Option ℕ) (n : ℕ) → cond t x None ≡ Some n → (t ≡ true) × (x ≡ Some n)
 if_some true x n e = (refl, e)
 if_some false x n e = absurd (false≢true (ap is_some e))
 
 -- a number of more than k digits, whose first is not 0
-long_number : (w : List ℕ) (n k : ℕ) → number_of w ≡ Number.Value n → 0 < k → k < length w → (tens k ≤ n) × (n ≤ 4294967295)
+long_number : (w : List ℕ) (n k : ℕ) → number_of w ≡ Some n → 0 < k → k < length w → (tens k ≤ n) × (n ≤ 4294967295)
 unfolding number_of number_after value_after
 long_number [] n k e p h = absurd (omega arith)
 long_number (c ∷ []) n k e p h = absurd (omega arith)
 long_number (c ∷ d ∷ ds) n k e p h =
     let w : List ℕ = c ∷ d ∷ ds in
     let a = if_some (not (eqb c 48)) (number_after 0 w) n e in
-    let b = if_some (all_of is_digit w && leb (value_after 0 w) 4294967295) (Number.Value (value_after 0 w)) n a.1 in
+    let b = if_some (all_of is_digit w && leb (value_after 0 w) 4294967295) (Some (value_after 0 w)) n a.1 in
     let all = and_both (all_of is_digit w) (leb (value_after 0 w) 4294967295) b.0 in
     let first = and_both (is_digit c) (all_of is_digit (d ∷ ds)) all.0 in
     let low : 48 ≤ c = leb-true 48 c (and_both (leb 48 c) (leb c 57) first.0).0 in
-    let v : value_after 0 w ≡ n = ap value_of b.1 in
+    let v : value_after 0 w ≡ n = ap (λ (o : Option ℕ). unwrap_or o 0) b.1 in
     let some : 1 ≤ 0 * 10 + (c - 48) = omega (arith, low, eqb-false c 48 (not-true _ a.0)) in
     let all_digits : tens (0 + length (d ∷ ds)) ≤ value_after 0 w = value_least (d ∷ ds) (0 * 10 + (c - 48)) 0 some in
     let m : ℕ = length (d ∷ ds) - k in
@@ -74,7 +74,7 @@ long_number (c ∷ d ∷ ds) n k e p h =
     let least : tens k ≤ tens (0 + length (d ∷ ds)) = rw j at (tens_more k m) in
     (omega (arith, least, all_digits, v), omega (arith, leb-true (value_after 0 w) 4294967295 all.1, v))
 
-short_number : (w : List ℕ) (n : ℕ) → number_of w ≡ Number.Value n → length w ≤ 10
+short_number : (w : List ℕ) (n : ℕ) → number_of w ≡ Some n → length w ≤ 10
 short_number w n e = go (dec_le (length w) 10)
   where
     go : Dec (length w ≤ 10) → length w ≤ 10
@@ -84,9 +84,9 @@ short_number w n e = go (dec_le (length w) 10)
         let least : 10000000000 ≤ n = b.0 in
         absurd (omega (arith, least, b.1))
 
-some_short : (w : List ℕ) (x : Number) → number_of w ≡ x → is_some x ≡ true → length w ≤ 10
-some_short w (Number.Value n) e h = short_number w n e
-some_short w Number.Nothing e h = absurd (false≢true h)
+some_short : (w : List ℕ) (x : Option ℕ) → number_of w ≡ x → is_some x ≡ true → length w ≤ 10
+some_short w (Some n) e h = short_number w n e
+some_short w None e h = absurd (false≢true h)
 
 -- Words.
 
@@ -124,9 +124,9 @@ bare_long c (w ∷ ws) h = refl
 long_ranged : (least most : ℕ) (f : ℕ → Command) (w : List ℕ) → 10 < length w → ranged least most f (number_of w) ≡ Command.Bad
 long_ranged least most f w h = go (number_of w) refl
   where
-    go : (x : Number) → number_of w ≡ x → ranged least most f x ≡ Command.Bad
-    go Number.Nothing e = refl
-    go (Number.Value n) e = absurd (omega (arith, short_number w n e))
+    go : (x : Option ℕ) → number_of w ≡ x → ranged least most f x ≡ Command.Bad
+    go None e = refl
+    go (Some n) e = absurd (omega (arith, short_number w n e))
 
 one_long : (least most : ℕ) (f : ℕ → Command) (ws : List (List ℕ)) → 11 < total ws → one least most f ws ≡ Command.Bad
 one_long least most f [] h = refl
@@ -137,9 +137,9 @@ two_long : (least most : ℕ) (f : ℕ → ℕ → Command) (ws : List (List ℕ
 two_long least most f [] h = refl
 two_long least most f (w ∷ ws) h = go (number_of w) refl
   where
-    go : (x : Number) → number_of w ≡ x → ranged least most (λ n. one least most (f n) ws) x ≡ Command.Bad
-    go Number.Nothing e = refl
-    go (Number.Value n) e =
+    go : (x : Option ℕ) → number_of w ≡ x → ranged least most (λ n. one least most (f n) ws) x ≡ Command.Bad
+    go None e = refl
+    go (Some n) e =
         ap (λ (c : Command). cond (leb least n && leb n most) c Command.Bad) (one_long least most (f n) ws (omega (arith, short_number w n e)))
         ∙ cond_same (leb least n && leb n most) Command.Bad
 
@@ -169,10 +169,10 @@ leading_long : (most digits bytes : ℕ) (f : ℕ → List (List ℕ) → Comman
 leading_long most digits bytes f [] p m g h = refl
 leading_long most digits bytes f (w ∷ ws) p m g h = go (number_of w) refl (dec_le (length w) digits)
   where
-    go : (x : Number) → number_of w ≡ x → Dec (length w ≤ digits) → ranged 0 most (λ n. f n ws) x ≡ Command.Bad
-    go Number.Nothing e s = refl
-    go (Number.Value n) e (yes s) = rw (g n ws (omega (arith, s))) (cond_same (leb 0 n && leb n most) Command.Bad)
-    go (Number.Value n) e (no s) =
+    go : (x : Option ℕ) → number_of w ≡ x → Dec (length w ≤ digits) → ranged 0 most (λ n. f n ws) x ≡ Command.Bad
+    go None e s = refl
+    go (Some n) e (yes s) = rw (g n ws (omega (arith, s))) (cond_same (leb 0 n && leb n most) Command.Bad)
+    go (Some n) e (no s) =
         let large : most < n = omega (arith, m, (long_number w n digits e p (omega (arith, s))).0) in
         simp (lt-leb _ _ large, and_false)
 

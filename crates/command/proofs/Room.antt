@@ -1,5 +1,6 @@
 -- No line makes a command of more room than the table takes.
 use Prim.Native.Nat.{ℕ, ◌≤◌}
+use Rattle.std.proofs.Common.{Option, None, Some}
 use mathlib.Core.Bool.{cond, ◌&&◌}
 use mathlib.Core.List.{List, [], ◌∷◌}
 use lib.ListN.{length}
@@ -7,7 +8,6 @@ use lib.Dec.{leb}
 use native.Mathlib.Omega.{arith}
 use borrow.Author.Tests.{leb-true}
 use Rattle.flag.proofs.Laws.{by_test, and_right}
-use Rattle.text.specs.declared.decimal.Number.{Number}
 use Rattle.text.specs.Text.{text, same}
 use Rattle.text.specs.Decimal.{number_of}
 use Rattle.text.specs.Words.{words}
@@ -21,9 +21,9 @@ Roomy c = room_of c ≤ most_room
 
 -- Each form, from the commands that it may make.
 
-ranged-room : (least most : ℕ) (f : ℕ → Command) (x : Number) → ((n : ℕ) → n ≤ most → Roomy (f n)) → Roomy (ranged least most f x)
-ranged-room least most f (Number.Value n) h = by_test Roomy (leb least n && leb n most) (f n) Command.Bad (λ t. h n (leb-true n most (and_right (leb least n) _ t))) (λ t. omega arith)
-ranged-room least most f Number.Nothing h = omega arith
+ranged-room : (least most : ℕ) (f : ℕ → Command) (x : Option ℕ) → ((n : ℕ) → n ≤ most → Roomy (f n)) → Roomy (ranged least most f x)
+ranged-room least most f (Some n) h = by_test Roomy (leb least n && leb n most) (f n) Command.Bad (λ t. h n (leb-true n most (and_right (leb least n) _ t))) (λ t. omega arith)
+ranged-room least most f None h = omega arith
 
 bare-room : (c : Command) (ws : List (List ℕ)) → Roomy c → Roomy (bare c ws)
 bare-room c [] h = h

@@ -1,22 +1,21 @@
 -- A line of numbers that begin with a version: its row, by the numbers that were read.
 use Prim.Native.Nat.{ℕ, ◌-◌, ◌≤◌, ◌<◌}
+use Rattle.std.proofs.Common.{Option, None, Some, is_some, unwrap_or}
 use mathlib.Core.Path.{◌≡◌, refl, sym, ap, ◌∙◌}
 use mathlib.Core.Bool.{Bool, true, false, cond, ◌&&◌, false≢true}
 use mathlib.Core.List.{List, [], ◌∷◌}
 use lib.ListN.{length, get_or, take}
 use lib.Seq.{get_or-take}
 use lib.Dec.{leb}
-use native.Mathlib.Decide.{dec_le}
 use native.Mathlib.Omega.{arith}
 use borrow.Author.Tests.{le-leb, lt-leb, leb-false}
 use Rattle.flag.proofs.Laws.{and_right}
-use Rattle.text.specs.declared.decimal.Number.{Number}
 use Rattle.text.specs.Text.{text, same}
 use Rattle.text.specs.Decimal.{number_of}
 use Rattle.text.proofs.Tests.{and_false, and-true, cond_same}
 use Rattle.command.specs.declared.Command.{Command}
-use Rattle.command.specs.Command.{most_version, most_records, most_room, most_numbers, ranged, leading, listed, is_some, value_of, all_numbers, few_numbers, numbers_in, values_of, table, look_up, rest}
-use Rattle.command.proofs.Loading.{one_number, numbers-none, numbers-all}
+use Rattle.command.specs.Command.{most_version, most_records, most_room, most_numbers, ranged, leading, listed, all_numbers, few_numbers, numbers_in, values_of, table, look_up, rest}
+use Rattle.command.proofs.Loading.{one_number, not_few, all_few}
 
 -- Where not at most k words are numbers, a row of at most k numbers is bad.
 
@@ -35,31 +34,26 @@ module _ (most k : ℕ) (f : ℕ → List (List ℕ) → Command) (none : (v : �
   few_leading [] e = refl
   few_leading (w ∷ ws) e = go (number_of w) refl
     where
-      go : (x : Number) → number_of w ≡ x → ranged 0 most (λ n. f n ws) x ≡ Command.Bad
-      go Number.Nothing d = refl
-      go (Number.Value a) d = rw (none a ws (sym (one_number k a w ws d h) ∙ e)) (cond_same (leb 0 a && leb a most) Command.Bad)
+      go : (x : Option ℕ) → number_of w ≡ x → ranged 0 most (λ n. f n ws) x ≡ Command.Bad
+      go None d = refl
+      go (Some a) d = rw (none a ws (sym (one_number k a w ws d h) ∙ e)) (cond_same (leb 0 a && leb a most) Command.Bad)
 
-  none-leading : (ws : List (List ℕ)) → 0 ≡ numbers_in k ws → leading 0 most f ws ≡ Command.Bad
-  none-leading [] e = refl
-  none-leading (w ∷ ws) e = few_leading (w ∷ ws) (go (few_numbers k (w ∷ ws)) refl)
-    where
-      go : (t : Bool) → few_numbers k (w ∷ ws) ≡ t → t ≡ false
-      go true p = absurd (omega (arith, numbers-all k (w ∷ ws) p))
-      go false p = refl
+  none-leading : (ws : List (List ℕ)) → None ≡ numbers_in k ws → leading 0 most f ws ≡ Command.Bad
+  none-leading ws e = few_leading ws (not_few k ws e)
 
 few_listed : (j k : ℕ) (f : ℕ → Command) (ws : List (List ℕ)) → j ≤ k → few_numbers k ws ≡ false → listed j f ws ≡ Command.Bad
 few_listed j k f ws h e = simp (few_fewer j k ws h e)
 
 -- Where all words are numbers.
 
-some_leading : (most : ℕ) (f : ℕ → List (List ℕ) → Command) (ws : List (List ℕ)) → all_numbers ws ≡ true → 0 < length ws → leading 0 most f ws ≡ ranged 0 most (λ v. f v (rest ws)) (Number.Value (get_or (values_of ws) 0 0))
+some_leading : (most : ℕ) (f : ℕ → List (List ℕ) → Command) (ws : List (List ℕ)) → all_numbers ws ≡ true → 0 < length ws → leading 0 most f ws ≡ ranged 0 most (λ v. f v (rest ws)) (Some (get_or (values_of ws) 0 0))
 unfolding all_numbers values_of
 some_leading most f [] e h = absurd (omega arith)
 some_leading most f (w ∷ ws) e h = go (number_of w) refl e
   where
-    go : (x : Number) → number_of w ≡ x → is_some x && all_numbers ws ≡ true → ranged 0 most (λ v. f v ws) x ≡ ranged 0 most (λ v. f v ws) (Number.Value (value_of x))
-    go (Number.Value a) d e = refl
-    go Number.Nothing d e = absurd (false≢true e)
+    go : (x : Option ℕ) → number_of w ≡ x → is_some x && all_numbers ws ≡ true → ranged 0 most (λ v. f v ws) x ≡ ranged 0 most (λ v. f v ws) (Some (unwrap_or x 0))
+    go (Some a) d e = refl
+    go None d e = absurd (false≢true e)
 
 some_listed : (k n : ℕ) (f : ℕ → Command) (ws : List (List ℕ)) → all_numbers ws ≡ true → length ws ≡ n → listed k f ws ≡ cond (leb n k) (f n) Command.Bad
 unfolding few_numbers
@@ -97,40 +91,33 @@ module _ (ws : List (List ℕ)) where
   unfolding look_up table same
   expect_row = refl
 
--- n numbers were read.
-module _ (ws : List (List ℕ)) (n : ℕ) (e : n ≡ numbers_in most_numbers ws) where
-  pub replay_none : n ≡ 0 → Command.Bad ≡ look_up table (text "replay") ws
-  replay_none z =
-      sym (none-leading most_version most_numbers (λ v. listed most_records (Command.Replay v)) (λ v vs. few_listed most_records (most_numbers - 1) (Command.Replay v) vs (omega arith)) (omega arith) ws (sym z ∙ e))
+-- Not all are numbers, or they are more than a line has.
+module _ (ws : List (List ℕ)) (e : None ≡ numbers_in most_numbers ws) where
+  pub replay_none : Command.Bad ≡ look_up table (text "replay") ws
+  replay_none =
+      sym (none-leading most_version most_numbers (λ v. listed most_records (Command.Replay v)) (λ v vs. few_listed most_records (most_numbers - 1) (Command.Replay v) vs (omega arith)) (omega arith) ws e)
       ∙ replay_row ws
 
-  expect_none : n ≡ 0 → Command.Bad ≡ look_up table (text "expect") ws
-  expect_none z =
-      sym (none-leading most_version most_numbers roomed (λ v. few_leading most_room (most_numbers - 1) (λ room. listed most_records (Command.Expect v room)) (λ room vs. few_listed most_records (most_numbers - 2) (Command.Expect v room) vs (omega arith)) (omega arith)) (omega arith) ws (sym z ∙ e))
+  pub expect_none : Command.Bad ≡ look_up table (text "expect") ws
+  expect_none =
+      sym (none-leading most_version most_numbers roomed (λ v. few_leading most_room (most_numbers - 1) (λ room. listed most_records (Command.Expect v room)) (λ room vs. few_listed most_records (most_numbers - 2) (Command.Expect v room) vs (omega arith)) (omega arith)) (omega arith) ws e)
       ∙ expect_row ws
 
+-- n numbers were read.
+module _ (ws : List (List ℕ)) (n : ℕ) (e : Some n ≡ numbers_in most_numbers ws) where
   module _ (h : 0 < n) where
     all_read : (all_numbers ws ≡ true) × (length ws ≡ n)
     unfolding few_numbers
-    all_read = go (few_numbers most_numbers ws) refl
-      where
-        go : (t : Bool) → few_numbers most_numbers ws ≡ t → (all_numbers ws ≡ true) × (length ws ≡ n)
-        go true p = (and_right (leb (length ws) most_numbers) _ p, numbers-all most_numbers ws p ∙ sym e)
-        go false p = absurd (omega (arith, e ∙ sym (numbers-none most_numbers ws p)))
+    all_read =
+        let p = all_few most_numbers n ws e in
+        (and_right (leb (length ws) most_numbers) _ p.0, p.1)
 
-    expect_one : n < 2 → Command.Bad ≡ look_up table (text "expect") ws
+    pub expect_one : n < 2 → Command.Bad ≡ look_up table (text "expect") ws
     expect_one m =
         let l : length (rest ws) ≡ 0 = omega (arith, rest_long ws n all_read.1) in
         let v : ℕ = get_or (values_of ws) 0 0 in
         sym (some_leading most_version roomed ws all_read.0 (omega (arith, all_read.1)) ∙ rw (no_leading most_room (λ room. listed most_records (Command.Expect v room)) (rest ws) l) (cond_same (leb 0 v && leb v most_version) Command.Bad))
         ∙ expect_row ws
-
-  pub expect_few : n < 2 → Command.Bad ≡ look_up table (text "expect") ws
-  expect_few m = go (dec_le 1 n)
-    where
-      go : Dec (1 ≤ n) → Command.Bad ≡ look_up table (text "expect") ws
-      go (yes h) = expect_one h m
-      go (no z) = expect_none (omega (arith, z))
 
   -- they stand at the beginning of `to`
   module _ (to : List ℕ) (f : take n to ≡ take n (values_of ws)) where
@@ -138,7 +125,7 @@ module _ (ws : List (List ℕ)) (n : ℕ) (e : n ≡ numbers_in most_numbers ws)
     number_read i h = sym (get_or-take n (values_of ws) i 0 h) ∙ ap (λ (s : List ℕ). get_or s i 0) (sym f) ∙ get_or-take n to i 0 h
 
     module _ (h : 0 < n) where
-      replay_first : look_up table (text "replay") ws ≡ ranged 0 most_version (λ v. cond (leb (n - 1) most_records) (Command.Replay v (n - 1)) Command.Bad) (Number.Value (get_or to 0 0))
+      replay_first : look_up table (text "replay") ws ≡ ranged 0 most_version (λ v. cond (leb (n - 1) most_records) (Command.Replay v (n - 1)) Command.Bad) (Some (get_or to 0 0))
       replay_first =
           let r = all_read h in
           let v : ℕ = get_or (values_of ws) 0 0 in
@@ -157,7 +144,7 @@ module _ (ws : List (List ℕ)) (n : ℕ) (e : n ≡ numbers_in most_numbers ws)
         replay_some m = sym (replay_first ∙ simp (le-leb 0 (get_or to 0 0) (omega arith), le-leb _ _ small, le-leb _ _ m))
 
     module _ (h : 2 ≤ n) where
-      expect_first : look_up table (text "expect") ws ≡ ranged 0 most_version (λ v. ranged 0 most_room (λ room. cond (leb (n - 2) most_records) (Command.Expect v room (n - 2)) Command.Bad) (Number.Value (get_or to 1 0))) (Number.Value (get_or to 0 0))
+      expect_first : look_up table (text "expect") ws ≡ ranged 0 most_version (λ v. ranged 0 most_room (λ room. cond (leb (n - 2) most_records) (Command.Expect v room (n - 2)) Command.Bad) (Some (get_or to 1 0))) (Some (get_or to 0 0))
       expect_first =
           let r = all_read (omega arith) in
           let v : ℕ = get_or (values_of ws) 0 0 in

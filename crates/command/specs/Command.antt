@@ -1,11 +1,10 @@
 -- What a line says: the table of the protocol, row by row.
-use Rattle.std.specs.Prelude.{ℕ, ◌+◌, ◌*◌, Bool, true, false, cond, ◌&&◌, List, [], ◌∷◌, map, length, take, leb, eqb}
+use Rattle.std.specs.Prelude.{ℕ, ◌+◌, ◌*◌, Bool, true, cond, ◌&&◌, List, [], ◌∷◌, map, length, take, leb, eqb, Option, None, Some, is_some}
+use Rattle.std.specs.Option.{unwrap_or}
 use Prim.Native.String.{String}
 use Rattle.flag.specs.Flag.{all_of}
-use Rattle.text.specs.declared.decimal.Number.{Number}
 use Rattle.command.specs.declared.Call.{Call}
 use Rattle.command.specs.declared.Command.{Command}
-use Rattle.command.specs.declared.Pair.{Pair}
 use Rattle.text.specs.Text.{text, same}
 use Rattle.text.specs.Decimal.{number_of}
 use Rattle.text.specs.Words.{words}
@@ -35,9 +34,9 @@ longest_line = length (text "expect") + 1 + 5 + 1 + 4 + 11 * most_records
 -- What the words after the first make of a command: their numbers have to be as many as it takes, each in its range.
 
 -- a command with a number of this range
-abbrev pub ranged : ℕ → ℕ → (ℕ → Command) → Number → Command
-ranged least most f (Number.Value n) = cond (leb least n && leb n most) (f n) Command.Bad
-ranged least most f Number.Nothing = Command.Bad
+abbrev pub ranged : ℕ → ℕ → (ℕ → Command) → Option ℕ → Command
+ranged least most f (Some n) = cond (leb least n && leb n most) (f n) Command.Bad
+ranged least most f None = Command.Bad
 
 -- no number
 abbrev pub bare : Command → List (List ℕ) → Command
@@ -60,22 +59,13 @@ abbrev pub two : ℕ → ℕ → (ℕ → ℕ → Command) → List (List ℕ) �
 two least most f = leading least most (λ n. one least most (f n))
 
 -- what two numbers that were read make of a command, and that neither is above the most
-abbrev pub paired : (ℕ → ℕ → Command) → Pair → Command
-paired f (Pair.Numbers a b) = f a b
-paired f Pair.Nothing = Command.Bad
+abbrev pub paired : (ℕ → ℕ → Command) → Option (ℕ × ℕ) → Command
+paired f (Some p) = f p.0 p.1
+paired f None = Command.Bad
 
-abbrev pub at_most : ℕ → Pair → Bool
-at_most most (Pair.Numbers a b) = leb a most && leb b most
-at_most most Pair.Nothing = true
-
--- a word is a number
-abbrev pub is_some : Number → Bool
-is_some (Number.Value n) = true
-is_some Number.Nothing = false
-
-abbrev pub value_of : Number → ℕ
-value_of (Number.Value n) = n
-value_of Number.Nothing = 0
+abbrev pub at_most : ℕ → Option (ℕ × ℕ) → Bool
+at_most most (Some p) = leb p.0 most && leb p.1 most
+at_most most None = true
 
 -- words that are all numbers
 unfoldable pub all_numbers : List (List ℕ) → Bool
@@ -89,13 +79,13 @@ are_numbers k ws = eqb (length ws) k && all_numbers ws
 unfoldable pub few_numbers : ℕ → List (List ℕ) → Bool
 few_numbers k ws = leb (length ws) k && all_numbers ws
 
--- how many they are, where they are at most k: 0 where they are more, or one is no number
-unfoldable pub numbers_in : ℕ → List (List ℕ) → ℕ
-numbers_in k ws = cond (few_numbers k ws) (length ws) 0
+-- how many they are, where they are at most k: none where they are more, or one is no number
+unfoldable pub numbers_in : ℕ → List (List ℕ) → Option ℕ
+numbers_in k ws = cond (few_numbers k ws) (Some (length ws)) None
 
 -- the numbers that words spell
 unfoldable pub values_of : List (List ℕ) → List ℕ
-values_of ws = map (λ (w : List ℕ). value_of (number_of w)) ws
+values_of ws = map (λ (w : List ℕ). unwrap_or (number_of w) 0) ws
 
 abbrev pub many : ℕ → Command → List (List ℕ) → Command
 many k c ws = cond (are_numbers k ws) c Command.Bad

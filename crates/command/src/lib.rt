@@ -1,14 +1,13 @@
 // What a line says: its command, by the table of the protocol, and the numbers beside it.
 #![tactic(auto)]
 
-ghost use Rattle.std.specs.Prelude.{◌≡◌, true, false, List, [], ◌∷◌, ℕ, ◌≤◌, length, take};
+ghost use Rattle.std.specs.Prelude.{◌≡◌, true, false, List, [], ◌∷◌, ℕ, ◌≤◌, ◌<◌, length, take, IfSome, Some};
 ghost use Rattle.text.specs.Text.{text};
 ghost use Rattle.text.specs.Text.{same as «same_text»};
 ghost use Rattle.text.specs.Decimal.{number_of};
 ghost use Rattle.text.specs.Words.{words as «words_of»};
 ghost use Rattle.command.specs.Command.{most_numbers, two, paired, at_most, numbers_in, values_of, table, look_up, command_of, beside, operands_of};
 
-use text::decimal::Number;
 use text::{decimal, words};
 
 // The largest version that a line may name.
@@ -60,13 +59,6 @@ pub enum Command {
     Bad,
 }
 
-// Two numbers of a line, or none.
-#[derive(Clone, Copy)]
-enum Pair {
-    Numbers(u32, u32),
-    Nothing,
-}
-
 // The command of a word with no number after it.
 fn bare(word: &[u8]) -> Command
     ensures value { result ≡ look_up table word.now [] }
@@ -99,7 +91,7 @@ fn bare(word: &[u8]) -> Command
 // The command of a word and a number, which another word spells; `replay` is not looked for.
 fn with_number(word: &[u8], n: u32) -> Command
     requires { «same_text» word.now (text "replay") ≡ false }
-    ensures by_index { (a : List ℕ) → number_of a ≡ Number.Value n → result ≡ look_up table word.now (a ∷ []) }
+    ensures by_index { (a : List ℕ) → number_of a ≡ Some n → result ≡ look_up table word.now (a ∷ []) }
     ensures result_value { beside result ≡ 0 }
 {
     if words::same(word, b"ticks") {
@@ -137,28 +129,24 @@ fn with_number(word: &[u8], n: u32) -> Command
 }
 
 // The two numbers of a line, neither above the most.
-fn two_numbers(numbers: &[u8], most: u32) -> Pair
+fn two_numbers(numbers: &[u8], most: u32) -> Option<(u32, u32)>
     ensures by_index { (f : ℕ → ℕ → Command) → paired f result ≡ two 0 most f («words_of» numbers.now) }
     ensures result_value { at_most most result ≡ true }
 {
     let end = words::word_end(numbers, 0);
     if end == numbers.len() {
-        return Pair::Nothing;
+        return None;
     }
-    let Number::Value(a) = decimal::number_of(&numbers[..end]) else {
-        return Pair::Nothing;
-    };
+    let a = decimal::number_of(&numbers[..end])?;
     if most < a {
-        return Pair::Nothing;
+        return None;
     }
     let next = end + 1;
-    let Number::Value(b) = decimal::number_of(&numbers[next..]) else {
-        return Pair::Nothing;
-    };
+    let b = decimal::number_of(&numbers[next..])?;
     if most < b {
-        return Pair::Nothing;
+        return None;
     }
-    Pair::Numbers(a, b)
+    Some((a, b))
 }
 
 // The command `write` with these numbers.
@@ -167,8 +155,8 @@ fn write(numbers: &[u8]) -> Command
     ensures result_value { beside result ≡ 0 }
 {
     match two_numbers(numbers, 255) {
-        Pair::Numbers(a, b) => Command::Step(Call::Write(a as u8, b as u8)),
-        Pair::Nothing => Command::Bad,
+        Some((a, b)) => Command::Step(Call::Write(a as u8, b as u8)),
+        None => Command::Bad,
     }
 }
 
@@ -177,60 +165,53 @@ fn divisor(numbers: &[u8]) -> Command
     ensures value { result ≡ look_up table (text "divisor") («words_of» numbers.now) }
     ensures result_value { beside result ≡ 0 }
 {
-    match two_numbers(numbers, 4294967295) {
-        Pair::Numbers(clock, rate) => Command::Divisor(clock, rate),
-        Pair::Nothing => Command::Bad,
+    match two_numbers(numbers, u32::MAX) {
+        Some((clock, rate)) => Command::Divisor(clock, rate),
+        None => Command::Bad,
     }
 }
 
-// Reads the numbers of a line into `to`, and answers how many they are: 0 where one is no number, or
-// where they are more than it has places.
-fn read_numbers(numbers: &[u8], to: &mut [u32]) -> usize
+// Reads the numbers of a line into `to`, and answers how many they are: none where one is no number,
+// or where they are more than it has places.
+fn read_numbers(numbers: &[u8], to: &mut [u32]) -> Option<usize>
     ensures value { result ≡ numbers_in (length to.old) («words_of» numbers.now) }
-    ensures upper_bound { result ≤ length to.old }
-    ensures to_after { take result to.new ≡ take result (values_of («words_of» numbers.now)) }
+    ensures lower_bound { IfSome result (λ n. 0 < n) }
+    ensures upper_bound { IfSome result (λ n. n ≤ length to.old) }
+    ensures to_after { IfSome result (λ n. take n to.new ≡ take n (values_of («words_of» numbers.now))) }
 {
     let mut at: usize = 0;
-    let mut i: usize = 0;
-    while i < to.len() {
+    for i in 0..to.len() {
         let end = words::word_end(numbers, at);
-        let Number::Value(n) = decimal::number_of(&numbers[at..end]) else {
-            return 0;
-        };
-        to[i] = n;
-        i += 1;
+        to[i] = decimal::number_of(&numbers[at..end])?;
         if end == numbers.len() {
-            return i;
+            return Some(i + 1);
         }
         at = end + 1;
     }
-    0
+    None
 }
 
 // The command `load` with these numbers, which are then in `to`.
-fn load(numbers: &[u8], to: &mut [u32]) -> Command
-    requires { length to.old ≡ most_numbers }
+fn load(numbers: &[u8], to: &mut [u32; MOST_NUMBERS]) -> Command
     ensures value { result ≡ look_up table (text "load") («words_of» numbers.now) }
     ensures result_bound { beside result ≤ most_numbers }
     ensures to_after { take (beside result) to.new ≡ take (beside result) (values_of («words_of» numbers.now)) }
 {
-    if read_numbers(numbers, to) == numbers::COUNT {
-        return Command::Load;
+    match read_numbers(numbers, to) {
+        Some(n) if n == numbers::COUNT => Command::Load,
+        _ => Command::Bad,
     }
-    Command::Bad
 }
 
 // The command `replay` with these numbers, which are then in `to`.
-fn replay(numbers: &[u8], to: &mut [u32]) -> Command
-    requires { length to.old ≡ most_numbers }
+fn replay(numbers: &[u8], to: &mut [u32; MOST_NUMBERS]) -> Command
     ensures value { result ≡ look_up table (text "replay") («words_of» numbers.now) }
     ensures result_bound { beside result ≤ most_numbers }
     ensures to_after { take (beside result) to.new ≡ take (beside result) (values_of («words_of» numbers.now)) }
 {
-    let n = read_numbers(numbers, to);
-    if n == 0 {
+    let Some(n) = read_numbers(numbers, to) else {
         return Command::Bad;
-    }
+    };
     let version = to[0];
     if MOST_VERSION < version {
         return Command::Bad;
@@ -243,13 +224,14 @@ fn replay(numbers: &[u8], to: &mut [u32]) -> Command
 }
 
 // The command `expect` with these numbers, which are then in `to`.
-fn expect(numbers: &[u8], to: &mut [u32]) -> Command
-    requires { length to.old ≡ most_numbers }
+fn expect(numbers: &[u8], to: &mut [u32; MOST_NUMBERS]) -> Command
     ensures value { result ≡ look_up table (text "expect") («words_of» numbers.now) }
     ensures result_bound { beside result ≤ most_numbers }
     ensures to_after { take (beside result) to.new ≡ take (beside result) (values_of («words_of» numbers.now)) }
 {
-    let n = read_numbers(numbers, to);
+    let Some(n) = read_numbers(numbers, to) else {
+        return Command::Bad;
+    };
     if n < 2 {
         return Command::Bad;
     }
@@ -265,8 +247,7 @@ fn expect(numbers: &[u8], to: &mut [u32]) -> Command
 }
 
 // The command of a line, which has no newline. The numbers that stand beside it are in `to`.
-pub fn command_of(line: &[u8], to: &mut [u32]) -> Command
-    requires { length to.old ≡ most_numbers }
+pub fn command_of(line: &[u8], to: &mut [u32; MOST_NUMBERS]) -> Command
     ensures value { result ≡ command_of line.now }
     ensures result_bound { beside result ≤ most_numbers }
     ensures to_after { take (beside result) to.new ≡ operands_of line.now }
@@ -294,7 +275,7 @@ pub fn command_of(line: &[u8], to: &mut [u32]) -> Command
         return expect(numbers, to);
     }
     match decimal::number_of(numbers) {
-        Number::Value(n) => with_number(word, n),
-        Number::Nothing => Command::Bad,
+        Some(n) => with_number(word, n),
+        None => Command::Bad,
     }
 }

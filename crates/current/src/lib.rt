@@ -72,8 +72,7 @@ fn broken(part: u8, s: State) -> State
 }
 
 // The current state after `load` of these numbers.
-fn loaded(n: &[u32]) -> Session
-    requires { length n.now ≡ state_count }
+fn loaded(n: &[u32; numbers::COUNT]) -> Session
     ensures { result ≡ loaded_of n.now }
 {
     let unfit = fits::unfit_part(n);
@@ -88,8 +87,7 @@ fn loaded(n: &[u32]) -> Session
 }
 
 // Puts the numbers of the current state.
-pub fn put_current(s: Session, kept: &[u32], out: &mut [u8], at: usize) -> usize
-    requires kept_len { length kept.now ≡ state_count }
+pub fn put_current(s: Session, kept: &[u32; numbers::COUNT], out: &mut [u8], at: usize) -> usize
     requires longest_answer_in_bounds { at + longest_answer ≤ length out.old }
     ensures { Appended out.old at (line_of (current_numbers s kept.now)) out.new result }
 {
@@ -124,8 +122,7 @@ pub fn stepped(s: Session, c: Call, out: &mut [u8], at: usize) -> Said
 {
     let t = s.state;
     let a = reply::step(t, c);
-    let n = reply::step_numbers(a);
-    let end = decimal::put_line(&n, out, at);
+    let end = reply::put_numbers(reply::step_numbers(a), out, at);
     let state = a.state;
     moved_to(s, state, end)
 }
@@ -138,7 +135,7 @@ pub fn ran(s: Session, n: u32, out: &mut [u8], at: usize) -> Said
 {
     let t = s.state;
     let a = foretell::run(t, n);
-    let end = reply::put_pair(a.number, a.used, out, at);
+    let end = reply::put_numbers([u32::from(a.number), a.used], out, at);
     let state = a.state;
     moved_to(s, state, end)
 }
@@ -151,7 +148,7 @@ pub fn jumped(s: Session, n: u32, out: &mut [u8], at: usize) -> Said
 {
     let t = s.state;
     let j = jump::jump(t, n);
-    let end = reply::put_pair(j.number, j.jumps, out, at);
+    let end = reply::put_numbers([u32::from(j.number), j.jumps], out, at);
     let state = j.state;
     moved_to(s, state, end)
 }
@@ -164,7 +161,7 @@ pub fn jump_ran(s: Session, n: u32, out: &mut [u8], at: usize) -> Said
 {
     let t = s.state;
     let r = jump::run(t, n);
-    let end = reply::put_triple(r.number, r.used, r.jumps, out, at);
+    let end = reply::put_numbers([u32::from(r.number), r.used, r.jumps], out, at);
     let state = r.state;
     moved_to(s, state, end)
 }
@@ -216,24 +213,23 @@ pub fn restart(out: &mut [u8], at: usize) -> Said
 {
     Said {
         session: start(),
-        end: reply::put_done(out, at),
+        end: reply::put_numbers([0], out, at),
     }
 }
 
 // Loads numbers, and puts the answer.
-pub fn load(numbers: &[u32], kept: &mut [u32], out: &mut [u8], at: usize) -> Said
+pub fn load(numbers: &[u32], kept: &mut [u32; numbers::COUNT], out: &mut [u8], at: usize) -> Said
     requires numbers_len { length numbers.now ≡ state_count }
-    requires kept_len { length kept.old ≡ state_count }
     requires at_in_bounds { at + 11 ≤ length out.old }
     ensures session_value { result.session ≡ loaded_of numbers.now }
     ensures part { part_of result.session.state ≡ loaded_part numbers.now }
     ensures kept_after { kept.new ≡ numbers.now }
     ensures appended { Appended out.old at (line_of (0 ∷ [])) out.new result.end }
 {
-    numbers::put(numbers, kept, 0);
-    let end = reply::put_done(out, at);
+    kept.copy_from_slice(numbers);
+    let end = reply::put_numbers([0], out, at);
     Said {
-        session: loaded(numbers),
+        session: loaded(kept),
         end,
     }
 }

@@ -3,23 +3,16 @@
 
 ghost use Rattle.std.specs.Prelude.{◌≡◌, ◌≤◌, length, eqb};
 ghost use Rattle.flag.specs.Flag.{all_of};
-ghost use Rattle.numbers.specs.Numbers.{state_count, is_byte, bytes_in, registers_fit, settings_fit, transmit_fits, receive_fits, latches_fit, fits, unfit_part};
+ghost use Rattle.numbers.specs.Numbers.{is_byte, bytes_in, registers_fit, settings_fit, transmit_fits, receive_fits, latches_fit, fits, unfit_part};
 
-use flag::both;
+use numbers::COUNT;
 use sheet::part;
 
 // Whether every number is a byte.
 fn all_bytes(n: &[u32]) -> bool
     ensures { result ≡ all_of is_byte n.now }
 {
-    let mut i: usize = 0;
-    while i < n.len() {
-        if 255 < n[i] {
-            return false;
-        }
-        i += 1;
-    }
-    true
+    n.iter().all(|&x| x <= 255)
 }
 
 // Whether the numbers at the places a to b are bytes.
@@ -34,52 +27,43 @@ fn bytes_in(n: &[u32], a: usize, b: usize) -> bool
 }
 
 // Whether the numbers of part 1 fit.
-fn registers_fit(n: &[u32]) -> bool
-    requires { length n.now ≡ state_count }
+fn registers_fit(n: &[u32; COUNT]) -> bool
     ensures { result ≡ registers_fit n.now }
 {
     bytes_in(n, 1, 4)
 }
 
 // Whether those of part 2 fit.
-fn settings_fit(n: &[u32]) -> bool
-    requires { length n.now ≡ state_count }
+fn settings_fit(n: &[u32; COUNT]) -> bool
     ensures { result ≡ settings_fit n.now }
 {
     bytes_in(n, 7, 12)
 }
 
 // Whether those of part 3 fit.
-fn transmit_fits(n: &[u32]) -> bool
-    requires { length n.now ≡ state_count }
+fn transmit_fits(n: &[u32; COUNT]) -> bool
     ensures { result ≡ transmit_fits n.now }
 {
-    both(bytes_in(n, 14, 77), bytes_in(n, 79, 80))
+    bytes_in(n, 14, 77) && bytes_in(n, 79, 80)
 }
 
 // Whether those of part 4 fit.
-fn receive_fits(n: &[u32]) -> bool
-    requires { length n.now ≡ state_count }
+fn receive_fits(n: &[u32; COUNT]) -> bool
     ensures { result ≡ receive_fits n.now }
 {
-    both(
-        bytes_in(n, 82, 338),
-        both(bytes_in(n, 340, 342), bytes_in(n, 349, 351)),
-    )
+    bytes_in(n, 82, 338) && bytes_in(n, 340, 342) && bytes_in(n, 349, 351)
 }
 
 // Whether those of part 5 fit.
-fn latches_fit(n: &[u32]) -> bool
-    requires { length n.now ≡ state_count }
+fn latches_fit(n: &[u32; COUNT]) -> bool
     ensures { result ≡ latches_fit n.now }
 {
-    both(bytes_in(n, 343, 345), bytes_in(n, 347, 348))
+    bytes_in(n, 343, 345) && bytes_in(n, 347, 348)
 }
 
 // The lowest part of the state with a number that does not fit its place's type; 0 exactly where every
 // number fits.
-pub fn unfit_part(n: &[u32]) -> u8
-    requires { length n.now ≡ state_count }
+pub fn unfit_part(n: &[u32; COUNT]) -> u8
     ensures lowest { result ≡ unfit_part n.now }
     ensures none { fits n.now ≡ eqb result 0 }
 {

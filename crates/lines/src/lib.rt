@@ -1,14 +1,15 @@
 // A block of lines answered, and what is held of a line that has not ended.
 #![tactic(auto)]
 
-ghost use Rattle.std.specs.Prelude.{◌≡◌, suc, ◌≤◌, min, length, take, drop};
-ghost use Rattle.command.specs.Command.{most_numbers, longest_line};
-ghost use Rattle.numbers.specs.Numbers.{state_count};
+ghost use Rattle.std.specs.Prelude.{◌≡◌, suc, ◌≤◌, length, take, drop};
+ghost use Rattle.command.specs.Command.{longest_line};
 ghost use Rattle.current.specs.Current.{longest_answer};
 ghost use Rattle.session.specs.Session.{standing};
 ghost use Rattle.lines.specs.Lines.{last_said, Answered, Answers, held_of};
 
+use command::MOST_NUMBERS;
 use current::{LONGEST_ANSWER, Session};
+use numbers::COUNT;
 use text::words;
 
 const NEWLINE: u8 = b'\n';
@@ -32,13 +33,11 @@ pub fn answer_lines(
     s: Session,
     block: &[u8],
     from: usize,
-    numbers: &mut [u32],
-    kept: &mut [u32],
+    numbers: &mut [u32; MOST_NUMBERS],
+    kept: &mut [u32; COUNT],
     out: &mut [u8],
 ) -> Progress
     requires from_in_bounds { from ≤ length block.now }
-    requires numbers_len { length numbers.old ≡ most_numbers }
-    requires kept_len { length kept.old ≡ state_count }
     ensures answered { Answered (standing s kept.old) block.now from (standing result.session kept.new) result.next result.full (length out.old) }
     ensures answers { Answers (standing s kept.old) block.now from (standing result.session kept.new) result.next out.new result.end }
 {
@@ -68,13 +67,6 @@ pub fn answer_lines(
     }
 }
 
-// How much is held of so many bytes.
-fn at_most_held(n: usize) -> usize
-    ensures { result ≡ min n (suc longest_line) }
-{
-    if n < HELD { n } else { HELD }
-}
-
 // Moves what is held of the bytes of a block from `from` up to `to` to its start, and answers how
 // much that is.
 pub fn hold(block: &mut [u8], from: usize, to: usize) -> usize
@@ -84,11 +76,9 @@ pub fn hold(block: &mut [u8], from: usize, to: usize) -> usize
     ensures upper_bound { result ≤ suc longest_line }
     ensures upper_bound_2 { result ≤ length block.new }
 {
-    let n = at_most_held(to - from);
-    let mut i: usize = 0;
-    while i < n {
+    let n = (to - from).min(HELD);
+    for i in 0..n {
         block[i] = block[from + i];
-        i += 1;
     }
     n
 }
@@ -98,12 +88,10 @@ pub fn hold(block: &mut [u8], from: usize, to: usize) -> usize
 pub fn answer_last(
     s: Session,
     line: &[u8],
-    numbers: &mut [u32],
-    kept: &mut [u32],
+    numbers: &mut [u32; MOST_NUMBERS],
+    kept: &mut [u32; COUNT],
     out: &mut [u8],
 ) -> usize
-    requires numbers_len { length numbers.old ≡ most_numbers }
-    requires kept_len { length kept.old ≡ state_count }
     requires longest_answer_in_bounds { longest_answer ≤ length out.old }
     ensures out_after { take result out.new ≡ last_said (standing s kept.old) line.now }
     ensures upper_bound { result ≤ length out.new }

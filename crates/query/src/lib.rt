@@ -3,18 +3,17 @@
 
 ghost use Rattle.std.specs.Prelude.{◌≡◌, true, [], ◌+◌, ◌≤◌, length};
 ghost use Rattle.text.specs.Text.{Appended};
-ghost use Rattle.numbers.specs.Numbers.{state_count};
 ghost use Rattle.current.specs.Current.{longest_answer};
 ghost use Rattle.current.specs.Commands.{changes_nothing, said_of};
 
 use command::Command;
 use current::Session;
+use numbers::COUNT;
 use text::buffer;
 
 // Puts the answer of a command that changes nothing.
-pub fn put_answer(s: Session, c: Command, kept: &[u32], out: &mut [u8], at: usize) -> usize
+pub fn put_answer(s: Session, c: Command, kept: &[u32; COUNT], out: &mut [u8], at: usize) -> usize
     requires c_value { changes_nothing c ≡ true }
-    requires kept_len { length kept.now ≡ state_count }
     requires longest_answer_in_bounds { at + longest_answer ≤ length out.old }
     ensures { Appended out.old at (said_of s kept.now [] c) out.new result }
 {

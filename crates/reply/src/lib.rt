@@ -1,7 +1,7 @@
 // What the calls answer, as lines of numbers put into a lent buffer.
 #![tactic(auto)]
 
-ghost use Rattle.std.specs.Prelude.{◌≡◌, [], ◌∷◌, ◌+◌, ◌≤◌, length};
+ghost use Rattle.std.specs.Prelude.{◌≡◌, ◌+◌, ◌*◌, ◌≤◌, length};
 ghost use Rattle.device.specs.Calls.{pins_of};
 ghost use Rattle.device.specs.Forecast.{forecast_of, level_of};
 ghost use Rattle.text.specs.Text.{Appended};
@@ -11,7 +11,6 @@ ghost use Rattle.reply.specs.Reply.{step_of, step_numbers, look_numbers, part_nu
 
 use command::Call;
 use device::{Answer, Looked, State};
-use numbers::wide;
 use text::decimal;
 
 pub fn step(s: State, c: Call) -> Answer
@@ -32,14 +31,14 @@ pub fn step_numbers(a: Answer) -> [u32; 8]
     ensures { result ≡ step_numbers a }
 {
     [
-        wide(a.number),
-        wide(a.byte),
-        wide(a.outputs.sout),
-        wide(a.outputs.rts),
-        wide(a.outputs.dtr),
-        wide(a.outputs.out1),
-        wide(a.outputs.out2),
-        wide(a.outputs.intrpt),
+        u32::from(a.number),
+        u32::from(a.byte),
+        u32::from(a.outputs.sout),
+        u32::from(a.outputs.rts),
+        u32::from(a.outputs.dtr),
+        u32::from(a.outputs.out1),
+        u32::from(a.outputs.out2),
+        u32::from(a.outputs.intrpt),
     ]
 }
 
@@ -47,37 +46,21 @@ fn look_numbers(l: Looked) -> [u32; 7]
     ensures { result ≡ look_numbers l }
 {
     [
-        l.number as u32,
-        l.outputs.sout as u32,
-        l.outputs.rts as u32,
-        l.outputs.dtr as u32,
-        l.outputs.out1 as u32,
-        l.outputs.out2 as u32,
-        l.outputs.intrpt as u32,
+        u32::from(l.number),
+        u32::from(l.outputs.sout),
+        u32::from(l.outputs.rts),
+        u32::from(l.outputs.dtr),
+        u32::from(l.outputs.out1),
+        u32::from(l.outputs.out2),
+        u32::from(l.outputs.intrpt),
     ]
 }
 
-pub fn put_done(out: &mut [u8], at: usize) -> usize
-    requires { at + 11 ≤ length out.old }
-    ensures { Appended out.old at (line_of (0 ∷ [])) out.new result }
+// Puts a line of numbers, each of ten digits at most.
+pub fn put_numbers<const N: usize>(n: [u32; N], out: &mut [u8], at: usize) -> usize
+    requires { at + 11 * N ≤ length out.old }
+    ensures { Appended out.old at (line_of n.entry) out.new result }
 {
-    let n = [0u32; 1];
-    decimal::put_line(&n, out, at)
-}
-
-pub fn put_pair(number: u8, res: u32, out: &mut [u8], at: usize) -> usize
-    requires { at + 22 ≤ length out.old }
-    ensures { Appended out.old at (line_of (number ∷ res ∷ [])) out.new result }
-{
-    let n = [number as u32, res];
-    decimal::put_line(&n, out, at)
-}
-
-pub fn put_triple(number: u8, first: u32, second: u32, out: &mut [u8], at: usize) -> usize
-    requires { at + 33 ≤ length out.old }
-    ensures { Appended out.old at (line_of (number ∷ first ∷ second ∷ [])) out.new result }
-{
-    let n = [number as u32, first, second];
     decimal::put_line(&n, out, at)
 }
 
@@ -85,8 +68,7 @@ pub fn put_pins(s: State, out: &mut [u8], at: usize) -> usize
     requires { at + 77 ≤ length out.old }
     ensures { Appended out.old at (line_of (look_numbers (pins_of s))) out.new result }
 {
-    let n = look_numbers(uart::pins(s));
-    decimal::put_line(&n, out, at)
+    put_numbers(look_numbers(uart::pins(s)), out, at)
 }
 
 pub fn put_part(s: State, out: &mut [u8], at: usize) -> usize
@@ -94,7 +76,7 @@ pub fn put_part(s: State, out: &mut [u8], at: usize) -> usize
     ensures { Appended out.old at (line_of (part_numbers (pins_of s))) out.new result }
 {
     let a = uart::pins(s);
-    put_pair(a.number, wide(a.part), out, at)
+    put_numbers([u32::from(a.number), u32::from(a.part)], out, at)
 }
 
 pub fn put_forecast(s: State, out: &mut [u8], at: usize) -> usize
@@ -102,7 +84,7 @@ pub fn put_forecast(s: State, out: &mut [u8], at: usize) -> usize
     ensures { Appended out.old at (line_of (forecast_numbers (forecast_of s))) out.new result }
 {
     let a = foretell::forecast(s);
-    put_pair(a.number, a.ticks, out, at)
+    put_numbers([u32::from(a.number), a.ticks], out, at)
 }
 
 pub fn put_level(s: State, t: u32, out: &mut [u8], at: usize) -> usize
@@ -110,7 +92,7 @@ pub fn put_level(s: State, t: u32, out: &mut [u8], at: usize) -> usize
     ensures { Appended out.old at (line_of (level_numbers (level_of s t))) out.new result }
 {
     let a = foretell::level(s, t);
-    put_pair(a.number, wide(a.level), out, at)
+    put_numbers([u32::from(a.number), u32::from(a.level)], out, at)
 }
 
 pub fn put_divisor(clock: u32, rate: u32, out: &mut [u8], at: usize) -> usize

@@ -6,28 +6,27 @@
 
 ghost use Rattle.std.specs.Prelude.{◌≡◌, ◌+◌, ◌≤◌, length, take};
 ghost use Rattle.text.specs.Text.{Appended};
-ghost use Rattle.command.specs.Command.{most_numbers, most_room, beside, room_of};
-ghost use Rattle.numbers.specs.Numbers.{state_count};
+ghost use Rattle.command.specs.Command.{most_room, beside, room_of};
 ghost use Rattle.current.specs.Current.{longest_answer};
 ghost use Rattle.current.specs.Commands.{said_of, next_of, kept_of};
 ghost use Rattle.session.specs.Session.{standing, line_said, line_next};
 
-use command::Command;
+use command::{Command, MOST_NUMBERS};
 use current::{Said, Session};
+use numbers::COUNT;
 
 // Makes a command on the current state, and puts its answer into out from `at` on. The numbers that
 // stand beside it begin `numbers`; `kept` has those loaded last.
 pub fn answer(
     s: Session,
     c: Command,
-    numbers: &[u32],
-    kept: &mut [u32],
+    numbers: &[u32; MOST_NUMBERS],
+    kept: &mut [u32; COUNT],
     out: &mut [u8],
     at: usize,
 ) -> Said
     requires c_in_bounds { beside c ≤ length numbers.now }
     requires c_bound { room_of c ≤ most_room }
-    requires kept_len { length kept.old ≡ state_count }
     requires longest_answer_in_bounds { at + longest_answer ≤ length out.old }
     ensures session_value { result.session ≡ next_of s (take (beside c) numbers.now) c }
     ensures kept_after { kept.new ≡ kept_of kept.old (take (beside c) numbers.now) c }
@@ -36,7 +35,7 @@ pub fn answer(
     match c {
         Command::Step(call) => current::stepped(s, call, out, at),
         Command::Fresh => current::restart(out, at),
-        Command::Load => current::load(&numbers[..numbers::COUNT], kept, out, at),
+        Command::Load => current::load(&numbers[..COUNT], kept, out, at),
         Command::Run(n) => current::ran(s, n, out, at),
         Command::Jump(n) => current::jumped(s, n, out, at),
         Command::JumpRun(n) => current::jump_ran(s, n, out, at),
@@ -59,13 +58,11 @@ pub fn answer(
 pub fn answer_line(
     s: Session,
     line: &[u8],
-    numbers: &mut [u32],
-    kept: &mut [u32],
+    numbers: &mut [u32; MOST_NUMBERS],
+    kept: &mut [u32; COUNT],
     out: &mut [u8],
     at: usize,
 ) -> Said
-    requires numbers_len { length numbers.old ≡ most_numbers }
-    requires kept_len { length kept.old ≡ state_count }
     requires longest_answer_in_bounds { at + longest_answer ≤ length out.old }
     ensures kept_after { standing result.session kept.new ≡ line_next (standing s kept.old) line.now }
     ensures appended { Appended out.old at (line_said (standing s kept.old) line.now) out.new result.end }

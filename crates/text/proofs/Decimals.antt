@@ -1,15 +1,14 @@
 -- Numbers as text: the loop over a word's digits, and the digits of a number one by one.
-use Rattle.text.specs.declared.decimal.Number.{Number}
 use Prim.Native.Nat.{ℕ, zero, suc, ◌+◌, ◌-◌, ◌*◌, ◌/◌, ◌%◌, ◌^◌, ◌≤◌, ◌<◌}
 use mathlib.Core.Path.{◌≡◌, refl, sym, ap, ◌∙◌}
 use mathlib.Core.Bool.{Bool, true, false, cond}
+use Rattle.std.proofs.Common.{None, Some}
 use mathlib.Core.List.{List, [], ◌∷◌, ◌++◌, append_assoc, append-nil}
 use lib.ListN.{length, get_or, take, drop, length-append, drop_of_length-le}
 use lib.Dec.{leb, ltb}
-use native.Mathlib.Decide.{dec_lt}
 use native.Mathlib.Omega.{arith}
 use borrow.Author.Tests.{lt-ltb, le-ltb, le-leb, lt-leb, eq-eqb, ne_eqb}
-use Rattle.text.specs.Decimal.{value_after, number_after, number_of, glyph, digits_of, decimal_of, long_decimal_of, word_of, separator, line_of}
+use Rattle.text.specs.Decimal.{is_digit, value_after, number_after, number_of, glyph, digits_of, decimal_of, long_decimal_of, word_of, separator, line_of}
 use Rattle.text.specs.Text.{Appended}
 use Rattle.text.proofs.Tests.{and_false}
 use Rattle.text.proofs.Texts.{drop_at}
@@ -24,19 +23,15 @@ value_grows v (c ∷ cs) =
     let k = value_grows (v * 10 + (c - 48)) cs in
     omega arith
 
-after_digit : (v c : ℕ) (cs : List ℕ) → 48 ≤ c → c ≤ 57 → number_after v (c ∷ cs) ≡ number_after (v * 10 + (c - 48)) cs
+after_digit : (v c : ℕ) (cs : List ℕ) → is_digit c ≡ true → number_after v (c ∷ cs) ≡ number_after (v * 10 + (c - 48)) cs
 unfolding number_after value_after
-after_digit v c cs h k = simp (le-leb _ _ h, le-leb _ _ k)
+after_digit v c cs h = simp h
 
-after-low : (v c : ℕ) (cs : List ℕ) → c < 48 → Number.Nothing ≡ number_after v (c ∷ cs)
+after_other : (v c : ℕ) (cs : List ℕ) → is_digit c ≡ false → None ≡ number_after v (c ∷ cs)
 unfolding number_after value_after
-after-low v c cs h = simp (lt-leb _ _ h)
+after_other v c cs h = simp h
 
-after_high : (v c : ℕ) (cs : List ℕ) → 57 < c → Number.Nothing ≡ number_after v (c ∷ cs)
-unfolding number_after value_after
-after_high v c cs h = simp (lt-leb _ _ h, and_false)
-
-after_large : (v : ℕ) (cs : List ℕ) → 4294967295 < v → Number.Nothing ≡ number_after v cs
+after_large : (v : ℕ) (cs : List ℕ) → 4294967295 < v → None ≡ number_after v cs
 unfolding number_after
 after_large v cs h =
     let g = value_grows v cs in
@@ -53,26 +48,23 @@ module _ {w : List ℕ} {value i : ℕ} where
   read_at : Reading w value i → i < length w → number_after value (get_or w i 0 ∷ drop (i + 1) w) ≡ number_after 0 w
   read_at r h = rw (drop_at w i 0 h) at r.rest
 
-  pub read_low : Reading w value i → i < length w → get_or w i 0 < 48 → Number.Nothing ≡ number_after 0 w
-  read_low r h k = after-low value _ _ k ∙ read_at r h
+  pub read_other : Reading w value i → i < length w → is_digit (get_or w i 0) ≡ false → None ≡ number_after 0 w
+  read_other r h k = after_other value _ _ k ∙ read_at r h
 
-  pub read_high : Reading w value i → i < length w → 57 < get_or w i 0 → Number.Nothing ≡ number_after 0 w
-  read_high r h k = after_high value _ _ k ∙ read_at r h
+  pub read_digit : (v : ℕ) → Reading w value i → i < length w → is_digit (get_or w i 0) ≡ true → v ≡ value * 10 + (get_or w i 0 - 48) → number_after v (drop (i + 1) w) ≡ number_after 0 w
+  read_digit v r h k e = rw e (sym (after_digit value _ _ k) ∙ read_at r h)
 
-  pub read_digit : (d : ℕ) → Reading w value i → i < length w → 48 ≤ get_or w i 0 → get_or w i 0 ≤ 57 → d ≡ get_or w i 0 - 48 → number_after (value * 10 + d) (drop (i + 1) w) ≡ number_after 0 w
-  read_digit d r h k l e = rw e (sym (after_digit value _ _ k l) ∙ read_at r h)
-
-  pub read-ends : Reading w value i → length w ≤ i → Number.Value value ≡ number_after 0 w
+  pub read-ends : Reading w value i → length w ≤ i → Some value ≡ number_after 0 w
   unfolding number_after value_after
   read-ends r h =
-      let e : cond (leb value 4294967295) (Number.Value value) Number.Nothing ≡ number_after 0 w = rw (drop_of_length-le w h) at r.rest in
+      let e : cond (leb value 4294967295) (Some value) None ≡ number_after 0 w = rw (drop_of_length-le w h) at r.rest in
       simp (le-leb _ _ r.small) at e
 
-pub read_large : (w : List ℕ) (v : ℕ) (cs : List ℕ) → number_after v cs ≡ number_after 0 w → 4294967295 < v → Number.Nothing ≡ number_after 0 w
-read_large w v cs e h = after_large v cs h ∙ e
+  pub read_large : (v : ℕ) → Reading w value i → i < length w → is_digit (get_or w i 0) ≡ true → v ≡ value * 10 + (get_or w i 0 - 48) → 4294967295 < v → None ≡ number_after 0 w
+  read_large v r h k e l = after_large v _ l ∙ read_digit v r h k e
 
 -- a word's first digit
-pub number_empty : (w : List ℕ) → length w ≡ 0 → Number.Nothing ≡ number_of w
+pub number_empty : (w : List ℕ) → length w ≡ 0 → None ≡ number_of w
 unfolding number_of
 number_empty [] e = refl
 number_empty (c ∷ cs) e = absurd (omega arith)
@@ -83,7 +75,7 @@ number_single [] e = absurd (omega arith)
 number_single (c ∷ []) e = refl
 number_single (c ∷ d ∷ ds) e = absurd (omega arith)
 
-pub number_led : (w : List ℕ) → (length w ≡ 1 → ⊥) → get_or w 0 0 ≡ 48 → Number.Nothing ≡ number_of w
+pub number_led : (w : List ℕ) → (length w ≡ 1 → ⊥) → get_or w 0 0 ≡ 48 → None ≡ number_of w
 unfolding number_of
 number_led [] n e = absurd (omega arith)
 number_led (c ∷ []) n e = absurd (n refl)
@@ -165,14 +157,11 @@ byte-room n h = rw (← digits_among 17 2 n (omega arith)) (digits_room 2 n)
 
 -- Writing a line.
 
-pub separates : (ns : List ℕ) (i : ℕ) → cond (ltb i (length ns)) 32 10 ≡ separator (drop i ns)
-separates ns i = go (dec_lt i (length ns))
-  where
-    go : Dec (i < length ns) → cond (ltb i (length ns)) 32 10 ≡ separator (drop i ns)
-    go (yes h) = rw (drop_at ns i 0 h) (simp (lt-ltb _ _ h))
-    go (no n) =
-        let h : length ns ≤ i = omega (arith, n) in
-        rw (drop_of_length-le ns h) (simp (le-ltb _ _ h))
+pub separates_more : (ns : List ℕ) (i : ℕ) → i < length ns → 32 ≡ separator (drop i ns)
+separates_more ns i h = rw (drop_at ns i 0 h)
+
+pub separates_last : (ns : List ℕ) (i : ℕ) → length ns ≤ i → 10 ≡ separator (drop i ns)
+separates_last ns i h = rw (drop_of_length-le ns h)
 
 -- Writing a line into a buffer that held from: to holds the numbers before place i, up to end.
 pub record Writing (ns from : List ℕ) (at : ℕ) (to : List ℕ) (end i : ℕ) : Type 0 where

@@ -2,6 +2,7 @@
 use Prim.Native.Nat.{ℕ, suc, ◌+◌, ◌-◌, ◌≤◌, ◌<◌}
 use mathlib.Core.Path.{◌≡◌, refl, ap, ◌∙◌}
 use mathlib.Core.Bool.{Bool, true, false, cond, ◌&&◌}
+use Rattle.std.proofs.Common.{None, Some}
 use mathlib.Core.List.{List, [], ◌∷◌}
 use lib.ListN.{length, take, drop, length-drop}
 use lib.Seq.{take_all}
@@ -11,7 +12,6 @@ use native.Mathlib.Decide.{dec_lt}
 use native.Mathlib.Omega.{arith}
 use borrow.Author.Tests.{lt-leb, eqb-true}
 use Rattle.flag.specs.Flag.{all_of}
-use Rattle.text.specs.declared.decimal.Number.{Number}
 use Rattle.text.specs.Text.{before}
 use Rattle.text.specs.Decimal.{is_digit, number_after, number_of}
 use Rattle.text.specs.Words.{joined, words}
@@ -82,12 +82,12 @@ spaced (c ∷ cs) h = go (eqb c 32) refl (spaced cs) h
         simp (lt-leb _ _ k)
     go false e f h = rw (f (omega arith)) (and_false (is_digit c))
 
-pub spaced_number : (l : List ℕ) → before 32 l < length l → number_of l ≡ Number.Nothing
+pub spaced_number : (l : List ℕ) → before 32 l < length l → number_of l ≡ None
 unfolding number_of number_after
 spaced_number l h = simp (spaced l h, cond_same)
 
 -- a number is one word
-pub number_word : (l : List ℕ) (n : ℕ) → number_of l ≡ Number.Value n → words l ≡ l ∷ []
+pub number_word : (l : List ℕ) (n : ℕ) → number_of l ≡ Some n → words l ≡ l ∷ []
 number_word l n e = go (dec_lt (before 32 l) (length l))
   where
     go : Dec (before 32 l < length l) → words l ≡ l ∷ []

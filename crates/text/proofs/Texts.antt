@@ -1,79 +1,52 @@
 -- Texts: the search for a byte, the comparison of two, and what is appended to a buffer.
 use Prim.Native.Nat.{ℕ, suc, ◌+◌, ◌≤◌, ◌<◌}
 use mathlib.Core.Path.{◌≡◌, sym, refl, ap, ◌∙◌}
-use mathlib.Core.Bool.{Bool, true, false, ◌&&◌}
+use mathlib.Core.Bool.{Bool, true, false, cond, not, ◌&&◌}
 use mathlib.Core.List.{List, [], ◌∷◌, ◌++◌, append_assoc}
-use lib.ListN.{length, get_or, take, drop, set, length-append, length-take, drop_of_length-le}
+use lib.ListN.{length, get_or, take, drop, set, length-append, length-take}
 use lib.Seq.{take_all, drop-cons, take-suc-set}
 use lib.Dec.{eqb}
 use native.Mathlib.Numerals.{add-one}
 use native.Mathlib.Omega.{arith}
-use borrow.Author.Tests.{eq-eqb, ne_eqb, eqb-true}
+use native.Mathlib.Decide.{dec_lt}
+use borrow.Author.Tests.{eqb-true, lt-ltb, le-ltb}
+use Rattle.std.proofs.Common.{Option, unwrap_or}
+use Rattle.std.specs.List.{position, position_or_len}
+use Rattle.std.specs.Str.{bytes_eq}
+use Rattle.std.proofs.lemmas.List.Sums.{prefix_len-le-length}
 use Rattle.text.specs.Text.{same, before, Appended}
 
 -- what is left of a list from place i on
 pub drop_at : {A : Type 0} (xs : List A) (i : ℕ) (d : A) → i < length xs → drop i xs ≡ get_or xs i d ∷ drop (i + 1) xs
 drop_at xs i d h = rw (add-one, drop-cons xs i d)
 
--- Seeking: the first b from place i on is the first from `from` on.
-pub record Seeking (b : ℕ) (line : List ℕ) (from i : ℕ) : Type 0 where
-  pub most : i ≤ length line
-  pub first : i + before b (drop i line) ≡ from + before b (drop from line)
-
-module _ {b : ℕ} {line : List ℕ} {from i : ℕ} where
-  pub seek_found : Seeking b line from i → i < length line → get_or line i 0 ≡ b → i ≡ from + before b (drop from line)
-  unfolding before
-  seek_found w h e =
-      let k : before b (drop i line) ≡ 0 = rw (drop_at line i 0 h) (simp (eq-eqb _ _ e)) in
-      omega (arith, w.first)
-
-  pub seek_turns : Seeking b line from i → i < length line → (get_or line i 0 ≡ b → ⊥) → Seeking b line from (i + 1)
-  unfolding before
-  seek_turns w h n =
-      let k : before b (drop i line) ≡ suc (before b (drop (i + 1) line)) = rw (drop_at line i 0 h) (simp (ne_eqb _ _ n)) in
-      record { most = omega arith; first = omega (arith, w.first) }
-
-  pub seek_ends : Seeking b line from i → length line ≤ i → i ≡ from + before b (drop from line)
-  unfolding before
-  seek_ends w h =
-      let k : before b (drop i line) ≡ 0 = rw (drop_of_length-le line h) in
-      omega (arith, w.first)
-
--- Comparing: from place i on the two are the same exactly where they are whole.
-pub record Comparing (word name : List ℕ) (i : ℕ) : Type 0 where
-  pub most : i ≤ length word
-  pub rest : same (drop i word) (drop i name) ≡ same word name
-
-module _ {word name : List ℕ} {i : ℕ} (long : length word ≡ length name) where
-  compare_at : Comparing word name i → i < length word → eqb (get_or word i 0) (get_or name i 0) && same (drop (i + 1) word) (drop (i + 1) name) ≡ same word name
-  unfolding same
-  compare_at w h =
-      let k : i < length name = omega arith in
-      rw (drop_at word i 0 h, drop_at name i 0 k) at w.rest
-
-  pub compare_differs : Comparing word name i → i < length word → (get_or word i 0 ≡ get_or name i 0 → ⊥) → false ≡ same word name
-  compare_differs w h n = simp (ne_eqb _ _ n) at (compare_at w h)
-
-  pub compare_turns : Comparing word name i → i < length word → get_or word i 0 ≡ get_or name i 0 → Comparing word name (i + 1)
-  compare_turns w h e = record { most = omega arith; rest = simp (eq-eqb _ _ e) at (compare_at w h) }
-
-  pub compare_ends : Comparing word name i → length word ≤ i → true ≡ same word name
-  unfolding same
-  compare_ends w h =
-      let k : length name ≤ i = omega arith in
-      rw (drop_of_length-le word h, drop_of_length-le name k) at w.rest
-
--- two texts that are the same have one length
-pub same_length : (a b : List ℕ) → (length a ≡ length b → ⊥) → false ≡ same a b
-unfolding same
-same_length [] [] n = absurd (n refl)
-same_length [] (y ∷ ys) n = refl
-same_length (x ∷ xs) [] n = refl
-same_length (x ∷ xs) (y ∷ ys) n = go (eqb x y) (same_length xs ys (λ e. n (ap suc e)))
+-- the first b of a list, as the library's search finds it
+before_position : (b : ℕ) (l : List ℕ) → position_or_len (λ (c : ℕ). eqb c b) l ≡ before b l
+unfolding before
+before_position b [] = refl
+before_position b (c ∷ cs) = go (eqb c b) (before_position b cs)
   where
-    go : (t : Bool) → false ≡ same xs ys → false ≡ t && same xs ys
-    go true e = e
-    go false e = refl
+    go : (t : Bool) → position_or_len (λ (c : ℕ). eqb c b) cs ≡ before b cs → cond (not t) (1 + position_or_len (λ (c : ℕ). eqb c b) cs) 0 ≡ cond t 0 (suc (before b cs))
+    go true e = refl
+    go false e = omega (arith, e)
+
+pub before_found : (b : ℕ) (l : List ℕ) (r : Option ℕ) → r ≡ position (λ (c : ℕ). eqb c b) l → unwrap_or r (length l) ≡ before b l
+before_found b l r e = ap (λ (o : Option ℕ). unwrap_or o (length l)) e ∙ go (dec_lt (position_or_len (λ (c : ℕ). eqb c b) l) (length l)) ∙ before_position b l
+  where
+    go : Dec (position_or_len (λ (c : ℕ). eqb c b) l < length l) → unwrap_or (position (λ (c : ℕ). eqb c b) l) (length l) ≡ position_or_len (λ (c : ℕ). eqb c b) l
+    go (yes h) = simp (lt-ltb _ _ h)
+    go (no n) =
+        let m = prefix_len-le-length (λ (c : ℕ). not (eqb c b)) l in
+        let h : length l ≤ position_or_len (λ (c : ℕ). eqb c b) l = omega (arith, n) in
+        simp (le-ltb _ _ h) (omega (arith, m))
+
+-- the comparison of two texts is the library's
+pub same_is : (a b : List ℕ) → bytes_eq a b ≡ same a b
+unfolding same
+same_is [] [] = refl
+same_is [] (d ∷ ds) = refl
+same_is (c ∷ cs) [] = refl
+same_is (c ∷ cs) (d ∷ ds) = ap (λ (t : Bool). eqb c d && t) (same_is cs ds)
 
 -- two texts that are the same are equal
 pub same_equal : (a b : List ℕ) → same a b ≡ true → a ≡ b

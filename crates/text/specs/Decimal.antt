@@ -1,8 +1,7 @@
 -- Numbers as text: decimal digits, with no leading zero. No number that is read has a sign, and of those written only a
 -- negative one.
-use Rattle.std.specs.Prelude.{ℕ, zero, suc, ◌+◌, ◌-◌, ◌*◌, ◌/◌, ◌%◌, Bool, true, false, cond, not, ◌&&◌, List, [], ◌∷◌, ◌++◌, leb, ltb, eqb, ℤ, pos, negsuc}
+use Rattle.std.specs.Prelude.{ℕ, zero, suc, ◌+◌, ◌-◌, ◌*◌, ◌/◌, ◌%◌, Bool, true, false, cond, not, ◌&&◌, List, [], ◌∷◌, ◌++◌, leb, ltb, eqb, Option, None, Some, ℤ, pos, negsuc}
 use Rattle.flag.specs.Flag.{all_of}
-use Rattle.text.specs.declared.decimal.Number.{Number}
 
 -- Reading.
 
@@ -16,9 +15,9 @@ value_after v [] = v
 value_after v (c ∷ cs) = value_after (v * 10 + (c - 48)) cs
 
 -- the number of digits that follow those of v: none where a byte is no digit or the value is above 4294967295
-unfoldable pub number_after : ℕ → List ℕ → Number
+unfoldable pub number_after : ℕ → List ℕ → Option ℕ
 number_after v cs =
-    cond (all_of is_digit cs && leb (value_after v cs) 4294967295) (Number.Value (value_after v cs)) Number.Nothing
+    cond (all_of is_digit cs && leb (value_after v cs) 4294967295) (Some (value_after v cs)) None
 
 -- a word has a digit, and begins with 0 only where that is all of it
 abbrev pub well_led : List ℕ → Bool
@@ -27,8 +26,8 @@ well_led (c ∷ []) = true
 well_led (c ∷ d ∷ ds) = not (eqb c 48)
 
 -- the number that a word spells, or none
-unfoldable pub number_of : List ℕ → Number
-number_of w = cond (well_led w) (number_after 0 w) Number.Nothing
+unfoldable pub number_of : List ℕ → Option ℕ
+number_of w = cond (well_led w) (number_after 0 w) None
 
 -- Writing.
 

@@ -20,7 +20,7 @@ unfoldable pub before : ℕ → List ℕ → ℕ
 before b [] = 0
 before b (c ∷ cs) = cond (eqb c b) 0 (suc (before b cs))
 
--- a buffer that held `from` holds `to`: up to `at` as it was, then the text, which ends at `end`
-pub record Appended (from : List ℕ) (at : ℕ) (said : List ℕ) (to : List ℕ) (end : ℕ) : Type 0 where
+-- a buffer that held `from` holds `to`: up to `at` as it was, then what is said, which ends at `end`
+pub record Appended {A : Type 0} (from : List A) (at : ℕ) (said : List A) (to : List A) (end : ℕ) : Type 0 where
   pub holds : take end to ≡ take at from ++ said
   pub place : end ≡ at + length said

@@ -1,16 +1,13 @@
-// Texts put into a buffer.
+// Texts and numbers put into a buffer.
 ghost use Rattle.std.specs.Prelude.{◌+◌, ◌≤◌, length};
 ghost use Rattle.text.specs.Text.{Appended};
 
-// Puts a text into out from `at` on, and answers the place after it.
-pub fn put(text: &[u8], out: &mut [u8], at: usize) -> usize
+// Puts a text, or numbers, into out from `at` on, and answers the place after it.
+pub fn put<T: Copy>(text: &[T], out: &mut [T], at: usize) -> usize
     requires { at + length text.now ≤ length out.old }
     ensures { Appended out.old at text.now out.new result }
 {
-    let mut i: usize = 0;
-    while i < text.len() {
-        out[at + i] = text[i];
-        i += 1;
-    }
-    at + text.len()
+    let end = at + text.len();
+    out[at..end].copy_from_slice(text);
+    end
 }

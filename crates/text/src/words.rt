@@ -11,14 +11,8 @@ pub fn find(line: &[u8], from: usize, b: u8) -> usize
     ensures value { result ≡ from + before b (drop from line.now) }
     ensures upper_bound { result ≤ length line.now }
 {
-    let mut i = from;
-    while i < line.len() {
-        if line[i] == b {
-            return i;
-        }
-        i += 1;
-    }
-    i
+    let rest = &line[from..];
+    from + rest.iter().position(|&c| c == b).unwrap_or(rest.len())
 }
 
 // The end of the word that begins at `from`.
@@ -34,15 +28,5 @@ pub fn word_end(line: &[u8], from: usize) -> usize
 pub fn same(word: &[u8], name: &[u8]) -> bool
     ensures { result ≡ «same_text» word.now name.now }
 {
-    if word.len() != name.len() {
-        return false;
-    }
-    let mut i: usize = 0;
-    while i < word.len() {
-        if word[i] != name[i] {
-            return false;
-        }
-        i += 1;
-    }
-    true
+    word == name
 }

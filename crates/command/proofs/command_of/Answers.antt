@@ -42,12 +42,12 @@ returns-then-same-5 c =
 pub with_number-requires : goal.with_number-requires
 with_number-requires c = sym c.same-4.ensures ∙ c.if-same-4.false
 
-pub returns-in-Value : goal.returns-in-Value
-returns-in-Value c =
-    let e = line-number _ c.word_end-end.result c.word_end-end.ensures.value (omega arith) _ c.in-Value.n (sym c.number_of.ensures ∙ c.in-Value.is) c.with_number.ensures.by_index in
+pub returns-in-Some : goal.returns-in-Some
+returns-in-Some c =
+    let e = line-number _ c.word_end-end.result c.word_end-end.ensures.value (omega arith) _ c.in-Some.n (sym c.number_of.ensures ∙ c.in-Some.is) c.with_number.ensures.by_index in
     record { value = e; result_bound = omega (arith, c.with_number.ensures.result_value); to_after = no_operands _ _ _ e c.with_number.ensures.result_value }
 
-pub returns-in-Nothing : goal.returns-in-Nothing
-returns-in-Nothing c =
-    let e = line-none _ c.word_end-end.result c.word_end-end.ensures.value (omega arith) (sym c.number_of.ensures ∙ c.in-Nothing.is) (sym c.same.ensures ∙ c.if-same.false) (sym c.same-2.ensures ∙ c.if-same-2.false) (sym c.same-3.ensures ∙ c.if-same-3.false) (sym c.same-4.ensures ∙ c.if-same-4.false) (sym c.same-5.ensures ∙ c.if-same-5.false) in
+pub returns-in-None : goal.returns-in-None
+returns-in-None c =
+    let e = line-none _ c.word_end-end.result c.word_end-end.ensures.value (omega arith) (sym c.number_of.ensures ∙ c.in-None.is) (sym c.same.ensures ∙ c.if-same.false) (sym c.same-2.ensures ∙ c.if-same-2.false) (sym c.same-3.ensures ∙ c.if-same-3.false) (sym c.same-4.ensures ∙ c.if-same-4.false) (sym c.same-5.ensures ∙ c.if-same-5.false) in
     record { value = e; result_bound = omega arith; to_after = no_operands _ [] _ e refl }

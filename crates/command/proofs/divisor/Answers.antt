@@ -5,8 +5,8 @@ use Rattle.command.proofs.Pairs.{divisor-row}
 use mathlib.Core.Path.{refl, sym, ap, ◌∙◌}
 use Rattle.command.proofs.divisor.Goals as goal
 
-pub returns-in-Numbers : goal.returns-in-Numbers
-returns-in-Numbers c = record { value = ap (paired Command.Divisor) (sym c.in-Numbers.is) ∙ c.two_numbers.ensures.by_index Command.Divisor ∙ divisor-row _; result_value = refl }
+pub returns-in-Some : goal.returns-in-Some
+returns-in-Some c = record { value = ap (paired Command.Divisor) (sym c.in-Some.is) ∙ c.two_numbers.ensures.by_index Command.Divisor ∙ divisor-row _; result_value = refl }
 
-pub returns-in-Nothing : goal.returns-in-Nothing
-returns-in-Nothing c = record { value = ap (paired Command.Divisor) (sym c.in-Nothing.is) ∙ c.two_numbers.ensures.by_index Command.Divisor ∙ divisor-row _; result_value = refl }
+pub returns-in-None : goal.returns-in-None
+returns-in-None c = record { value = ap (paired Command.Divisor) (sym c.in-None.is) ∙ c.two_numbers.ensures.by_index Command.Divisor ∙ divisor-row _; result_value = refl }

@@ -1,16 +1,26 @@
 -- The numbers are as many as the table asks for, or not.
-use Rattle.command.proofs.Reading.{load_row}
-use mathlib.Core.Path.{refl}
-use native.Mathlib.Omega.{arith}
+use Rattle.command.proofs.Reading.{load_some, load_none}
+use mathlib.Core.Path.{◌≡◌, sym, ◌∙◌}
 use borrow.Author.Tests.{eq-eqb, ne_eqb}
+use lib.ListN.{length}
+use borrow.Author.Rules.{rules}
+use Rattle.command.specs.Command.{most_numbers}
 use Rattle.command.proofs.load.Goals as goal
 
-pub returns-then-read_numbers-eq-COUNT : goal.returns-then-read_numbers-eq-COUNT
-returns-then-read_numbers-eq-COUNT c =
-    let e = rw c.requires at c.read_numbers.ensures.value in
-    record { value = simp (eq-eqb _ _ c.if-read_numbers-eq-COUNT.true) at (load_row _ _ e); result_bound = omega arith; to_after = rw c.if-read_numbers-eq-COUNT.true at c.read_numbers.ensures.to_after }
+pub returns-in-Some-clause-value : goal.returns-in-Some-clause-value
+returns-in-Some-clause-value c =
+    let long : length c.args.to.now ≡ most_numbers = search rules in
+    let e = rw long at (sym c.in-Some.is ∙ c.read_numbers.ensures.value) in
+    simp (eq-eqb _ _ c.if-n-eq-COUNT.true) at (load_some _ _ e)
 
-pub returns : goal.returns
-returns c =
-    let e = rw c.requires at c.read_numbers.ensures.value in
-    record { value = simp (ne_eqb _ _ c.if-read_numbers-eq-COUNT.false) at (load_row _ _ e); result_bound = omega arith; to_after = refl }
+pub returns-in_default-clause-value : goal.returns-in_default-clause-value
+returns-in_default-clause-value c =
+    let long : length c.args.to.now ≡ most_numbers = search rules in
+    let e = rw long at (sym c.in-Some.is ∙ c.read_numbers.ensures.value) in
+    simp (ne_eqb _ _ c.if-n-eq-COUNT.false) at (load_some _ _ e)
+
+pub returns-in_default-2-clause-value : goal.returns-in_default-2-clause-value
+returns-in_default-2-clause-value c =
+    let long : length c.args.to.now ≡ most_numbers = search rules in
+    let e = rw long at (sym c.in_default.is ∙ c.read_numbers.ensures.value) in
+    load_none _ e

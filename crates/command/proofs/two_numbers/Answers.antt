@@ -15,17 +15,17 @@ returns-then-end-numbers c = record { by_index = λ f. single _ f _ c.word_end-e
 pub slice_bounds-number_of-end : goal.slice_bounds-number_of-end
 slice_bounds-number_of-end c = sym (length-take-le _ _ c.word_end-end.ensures.upper_bound)
 
-pub returns-in_default : goal.returns-in_default
-returns-in_default c = record { by_index = λ f. no_first _ f _ c.word_end-end.result c.word_end-end.ensures.value (omega arith) (sym c.number_of.ensures ∙ c.in_default.is); result_value = refl }
+pub returns-in_err-a-clause-by_index : goal.returns-in_err-a-clause-by_index
+returns-in_err-a-clause-by_index c = λ f. rw c.from_residual.ensures (no_first _ f _ c.word_end-end.result c.word_end-end.ensures.value (omega arith) (sym c.number_of.ensures ∙ c.in_err-a.was))
 
 pub returns-then-most-a : goal.returns-then-most-a
-returns-then-most-a c = record { by_index = λ f. large_first _ f _ c.word_end-end.result c.word_end-end.ensures.value (omega arith) c.in-Value.a (sym c.number_of.ensures ∙ c.in-Value.is) c.if-most-a.true; result_value = refl }
+returns-then-most-a c = record { by_index = λ f. large_first _ f _ c.word_end-end.result c.word_end-end.ensures.value (omega arith) c.in_ok-a.a (sym c.number_of.ensures ∙ c.in_ok-a.was) c.if-most-a.true; result_value = refl }
 
-pub returns-in_default-number_of : goal.returns-in_default-number_of
-returns-in_default-number_of c = record { by_index = λ f. no_second _ f _ c.word_end-end.result c.word_end-end.ensures.value (omega arith) c.in-Value.a (sym c.number_of.ensures ∙ c.in-Value.is) c.if-most-a.false (ap number_of (sym (rest_of c.args.numbers.now (c.word_end-end.result + 1))) ∙ sym c.number_of-2.ensures ∙ c.in_default-number_of.is); result_value = refl }
+pub returns-in_err-b-clause-by_index : goal.returns-in_err-b-clause-by_index
+returns-in_err-b-clause-by_index c = λ f. rw c.from_residual-in_err-b.ensures (no_second _ f _ c.word_end-end.result c.word_end-end.ensures.value (omega arith) c.in_ok-a.a (sym c.number_of.ensures ∙ c.in_ok-a.was) (ap number_of (sym (rest_of c.args.numbers.now (c.word_end-end.result + 1))) ∙ sym c.number_of-2.ensures ∙ c.in_err-b.was))
 
 pub returns-then-most-b : goal.returns-then-most-b
-returns-then-most-b c = record { by_index = λ f. large_second _ f _ c.word_end-end.result c.word_end-end.ensures.value (omega arith) c.in-Value.a (sym c.number_of.ensures ∙ c.in-Value.is) c.if-most-a.false c.in-Value-number_of.b (ap number_of (sym (rest_of c.args.numbers.now (c.word_end-end.result + 1))) ∙ sym c.number_of-2.ensures ∙ c.in-Value-number_of.is) c.if-most-b.true; result_value = refl }
+returns-then-most-b c = record { by_index = λ f. large_second _ f _ c.word_end-end.result c.word_end-end.ensures.value (omega arith) c.in_ok-a.a (sym c.number_of.ensures ∙ c.in_ok-a.was) c.in_ok-b.b (ap number_of (sym (rest_of c.args.numbers.now (c.word_end-end.result + 1))) ∙ sym c.number_of-2.ensures ∙ c.in_ok-b.was) c.if-most-b.true; result_value = refl }
 
 pub returns : goal.returns
-returns c = record { by_index = λ f. both_numbers _ f _ c.word_end-end.result c.word_end-end.ensures.value (omega arith) c.in-Value.a (sym c.number_of.ensures ∙ c.in-Value.is) c.if-most-a.false c.in-Value-number_of.b (ap number_of (sym (rest_of c.args.numbers.now (c.word_end-end.result + 1))) ∙ sym c.number_of-2.ensures ∙ c.in-Value-number_of.is) c.if-most-b.false; result_value = simp (le-leb _ _ c.if-most-a.false, le-leb _ _ c.if-most-b.false) }
+returns c = record { by_index = λ f. both_numbers _ f _ c.word_end-end.result c.word_end-end.ensures.value (omega arith) c.in_ok-a.a (sym c.number_of.ensures ∙ c.in_ok-a.was) c.in_ok-b.b (ap number_of (sym (rest_of c.args.numbers.now (c.word_end-end.result + 1))) ∙ sym c.number_of-2.ensures ∙ c.in_ok-b.was) c.if-most-a.false c.if-most-b.false; result_value = simp (le-leb _ _ c.if-most-a.false, le-leb _ _ c.if-most-b.false) }

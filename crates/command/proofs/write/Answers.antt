@@ -8,13 +8,13 @@ use native.Mathlib.Omega.{arith}
 use Rattle.command.proofs.write.Goals as goal
 
 pub overflow_cast-result : goal.overflow_cast-result
-overflow_cast-result c = omega (arith, (small_numbers c.in-Numbers.is c.two_numbers.ensures.result_value).0)
+overflow_cast-result c = omega (arith, (small_numbers c.in-Some.is c.two_numbers.ensures.result_value).0)
 
-pub overflow_cast-result-in-Numbers : goal.overflow_cast-result-in-Numbers
-overflow_cast-result-in-Numbers c = omega (arith, (small_numbers c.in-Numbers.is c.two_numbers.ensures.result_value).1)
+pub overflow_cast-result-in-Some : goal.overflow_cast-result-in-Some
+overflow_cast-result-in-Some c = omega (arith, (small_numbers c.in-Some.is c.two_numbers.ensures.result_value).1)
 
-pub returns-in-Numbers : goal.returns-in-Numbers
-returns-in-Numbers c = record { value = ap (paired (λ a b. Command.Step (Call.Write a b))) (sym c.in-Numbers.is) ∙ c.two_numbers.ensures.by_index (λ a b. Command.Step (Call.Write a b)) ∙ write_row _; result_value = refl }
+pub returns-in-Some : goal.returns-in-Some
+returns-in-Some c = record { value = ap (paired (λ a b. Command.Step (Call.Write a b))) (sym c.in-Some.is) ∙ c.two_numbers.ensures.by_index (λ a b. Command.Step (Call.Write a b)) ∙ write_row _; result_value = refl }
 
-pub returns-in-Nothing : goal.returns-in-Nothing
-returns-in-Nothing c = record { value = ap (paired (λ a b. Command.Step (Call.Write a b))) (sym c.in-Nothing.is) ∙ c.two_numbers.ensures.by_index (λ a b. Command.Step (Call.Write a b)) ∙ write_row _; result_value = refl }
+pub returns-in-None : goal.returns-in-None
+returns-in-None c = record { value = ap (paired (λ a b. Command.Step (Call.Write a b))) (sym c.in-None.is) ∙ c.two_numbers.ensures.by_index (λ a b. Command.Step (Call.Write a b)) ∙ write_row _; result_value = refl }

@@ -10,4 +10,4 @@ use Rattle.current.proofs.jump_ran.Goals as goal
 pub returns : goal.returns
 returns c =
     let e = c.run-r.ensures.outcome in
-    record { session_value = c.moved_to.ensures.session_value ∙ ap (λ (a : JumpRan). moved c.args.s a.state) e; appended = rw c.moved_to.ensures.end_value (appended_as (ap (λ (a : JumpRan). line_of (jump_run_numbers a)) e) c.put_triple-end.ensures) }
+    record { session_value = c.moved_to.ensures.session_value ∙ ap (λ (a : JumpRan). moved c.args.s a.state) e; appended = rw c.moved_to.ensures.end_value (appended_as (ap (λ (a : JumpRan). line_of (jump_run_numbers a)) e) (rw c.from.ensures at c.put_numbers-end.ensures)) }

@@ -5,11 +5,12 @@ use Rattle.current.specs.Current.{current_numbers}
 use mathlib.Core.Path.{◌≡◌}
 use lib.ListN.{length}
 use native.Mathlib.Omega.{arith}
+use borrow.Author.Rules.{rules}
 use Rattle.current.proofs.put_current.Goals as goal
 
 pub put_line-requires : goal.put_line-requires
 put_line-requires c =
-    let long : length c.put_state.new.out ≡ state_count = c.put_state.auto.out in
+    let long : length c.put_state.new.out ≡ state_count = search rules in
     omega (arith, line-room c.put_state.new.out, c.requires.longest_answer_in_bounds)
 
 pub returns-then-s : goal.returns-then-s
@@ -17,7 +18,9 @@ unfolding current_numbers
 returns-then-s c = simp c.if-s.true (rw c.put_state.ensures at c.put_line.ensures)
 
 pub put_line-requires-2 : goal.put_line-requires-2
-put_line-requires-2 c = omega (arith, line-room c.args.kept.now, c.requires.kept_len, c.requires.longest_answer_in_bounds)
+put_line-requires-2 c =
+    let long : length c.args.kept.now ≡ state_count = search rules in
+    omega (arith, line-room c.args.kept.now, c.requires.longest_answer_in_bounds)
 
 pub returns : goal.returns
 unfolding current_numbers

@@ -4,18 +4,10 @@ use Rattle.text.specs.Decimal.{line_of}
 use Rattle.reply.specs.Reply.{step_numbers}
 use Rattle.current.specs.Current.{moved}
 use Rattle.device.specs.declared.Answer.{Answer}
-use Rattle.text.proofs.Decimals.{line-room}
-use mathlib.Core.Path.{◌≡◌, ap, ◌∙◌}
-use lib.ListN.{length}
-use native.Mathlib.Omega.{arith}
+use mathlib.Core.Path.{ap, ◌∙◌}
 use Rattle.current.proofs.stepped.Goals as goal
-
-pub put_line-end-requires : goal.put_line-end-requires
-put_line-end-requires c =
-    let long : length c.step_numbers-n.result ≡ 8 = ap length c.step_numbers-n.ensures in
-    omega (arith, line-room c.step_numbers-n.result)
 
 pub returns : goal.returns
 returns c =
     let e = c.step-a.ensures in
-    record { session_value = c.moved_to.ensures.session_value ∙ ap (λ (a : Answer). moved c.args.s a.state) e; appended = rw c.moved_to.ensures.end_value (appended_as (ap line_of (c.step_numbers-n.ensures ∙ ap step_numbers e)) c.put_line-end.ensures) }
+    record { session_value = c.moved_to.ensures.session_value ∙ ap (λ (a : Answer). moved c.args.s a.state) e; appended = rw c.moved_to.ensures.end_value (appended_as (ap line_of (c.step_numbers.ensures ∙ ap step_numbers e)) c.put_numbers-end.ensures) }

@@ -1,17 +1,13 @@
--- The test of the numbers from `i` on is that of all.
-use Rattle.fits.proofs.Places.{test_turns, test_fails, test_ends}
-use mathlib.Core.Path.{refl}
-use native.Mathlib.Omega.{arith}
+-- The library's test of every number is the definition's.
+use Rattle.std.proofs.Common.{rules, tests}
+use mathlib.Core.Path.{◌∙◌}
+use Rattle.std.proofs.lemmas.Iterator.{YieldsList-from_slice}
+use Rattle.std.proofs.lemmas.Iterator.Search.{all_from_yields_List}
+use Rattle.numbers.specs.Numbers.{is_byte}
+use Rattle.fits.proofs.Places.{all_is}
 use Rattle.fits.proofs.all_bytes.Goals as goal
 
-pub loop-i-init : goal.loop-i-init
-loop-i-init c = record { most = omega arith; same = refl }
-
-pub returns-then-n-i-gt255 : goal.returns-then-n-i-gt255
-returns-then-n-i-gt255 c = test_fails c.loop-i.invariant (omega arith) c.if-n-i-gt255.true
-
-pub loop-i-preserved : goal.loop-i-preserved
-loop-i-preserved c = test_turns c.loop-i.invariant (omega arith) c.if-n-i-gt255.false
-
 pub returns : goal.returns
-returns c = test_ends c.loop-i.invariant (omega arith)
+returns c =
+    all_from_yields_List is_byte _ _ c.all.result c.all.ensures.ran (YieldsList-from_slice c.args.n.now (cc)) (λ x b q k. search (rules, tests))
+    ∙ all_is c.args.n.now

@@ -21,7 +21,7 @@ bounds-out-at c = omega (arith, c.loop-i.invariant.long)
 pub loop-i-preserved : goal.loop-i-preserved
 loop-i-preserved c =
     let long : length c.args.bytes ≡ 64 = search rules in
-    copy_turns _ c.loop-i.invariant (omega arith) (omega arith) c.wide.ensures
+    copy_turns _ c.loop-i.invariant (omega arith) (omega arith) c.from.ensures
 
 pub shape_of-out : goal.shape_of-out
 shape_of-out c = c.loop-i.invariant.long

@@ -18,7 +18,7 @@ put-requires c =
 pub loop-i-preserved : goal.loop-i-preserved
 loop-i-preserved c =
     let long : length c.args.entries ≡ 64 = search (length_mapped, rules) in
-    spread_turns _ _ _ c.loop-i.invariant (omega arith) c.entry_numbers-four.ensures c.put.auto.out c.put.ensures
+    spread_turns _ _ _ c.loop-i.invariant (omega arith) c.entry_numbers-four.ensures c.put.auto.out (rw c.put.ensures.place at c.put.ensures)
 
 pub shape_of-out : goal.shape_of-out
 shape_of-out c = c.loop-i.invariant.long

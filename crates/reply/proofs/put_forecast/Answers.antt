@@ -7,4 +7,4 @@ use mathlib.Core.Path.{ap}
 use Rattle.reply.proofs.put_forecast.Goals as goal
 
 pub returns : goal.returns
-returns c = appended_as (ap (λ (f : Forecasted). line_of (forecast_numbers f)) c.forecast-a.ensures.outcome) c.put_pair.ensures
+returns c = appended_as (ap (λ (f : Forecasted). line_of (forecast_numbers f)) c.forecast-a.ensures.outcome) (rw c.from.ensures at c.put_numbers.ensures)

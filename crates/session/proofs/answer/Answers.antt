@@ -20,7 +20,7 @@ slice_bounds-load-end c =
 pub load-requires : goal.load-requires
 load-requires c =
     let h : state_count ≤ length c.args.numbers.now = rw c.in-Load.is at c.requires.c_in_bounds in
-    record { numbers_len = length-take-le state_count c.args.numbers.now h; kept_len = c.requires.kept_len; at_in_bounds = omega arith }
+    record { numbers_len = length-take-le state_count c.args.numbers.now h; at_in_bounds = omega arith }
 
 pub overflow_add-end : goal.overflow_add-end
 overflow_add-end c =
@@ -38,7 +38,7 @@ expected-requires c = record { room_le_most_room = rw c.in-Expect.is at c.requir
 pub put_answer-requires : goal.put_answer-requires
 put_answer-requires c =
     let d = c.in_default in
-    record { c_value = no_change _ d.not-Step d.not-Fresh d.not-Load d.not-Run d.not-Jump d.not-JumpRun d.not-Replay d.not-Expect; kept_len = search rules; longest_answer_in_bounds = search rules }
+    record { c_value = no_change _ d.not-Step d.not-Fresh d.not-Load d.not-Run d.not-Jump d.not-JumpRun d.not-Replay d.not-Expect; longest_answer_in_bounds = search rules }
 
 pub returns-in-Step : goal.returns-in-Step
 unfolding next_of kept_of said_of

@@ -13,7 +13,6 @@ answer-requires c =
     record {
       c_in_bounds = search rules;
       c_bound = subst (λ (x : Command). room_of x ≤ most_room) (sym c.command_of-c.ensures.value) (room_most _);
-      kept_len = search rules;
       longest_answer_in_bounds = search rules;
     }
 

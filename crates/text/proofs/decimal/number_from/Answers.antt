@@ -1,28 +1,22 @@
--- The number is that of the digits from `i` on, which follow those of `value`.
-use Rattle.text.proofs.Decimals.{read_low, read_high, read_digit, read-ends, read_large}
-use mathlib.Core.Path.{refl}
+-- The number is that of the digits from `c-index` on, which follow those of `value`.
+use Rattle.text.proofs.Decimals.{read_other, read_digit, read-ends, read_large}
+use mathlib.Core.Path.{refl, sym, ◌∙◌}
 use native.Mathlib.Omega.{arith}
 use Rattle.text.proofs.decimal.number_from.Goals as goal
 
-pub loop-i-init : goal.loop-i-init
-loop-i-init c = record { most = omega arith; small = omega arith; rest = refl }
+pub returns-then-not-is_ascii_digit : goal.returns-then-not-is_ascii_digit
+returns-then-not-is_ascii_digit c = read_other c.loop-c.invariant (omega arith) (sym c.is_ascii_digit.ensures.value ∙ c.if-not-is_ascii_digit.true)
 
-pub returns-then-c-lt-ZERO : goal.returns-then-c-lt-ZERO
-returns-then-c-lt-ZERO c = read_low c.loop-i.invariant (omega arith) c.if-c-lt-ZERO.true
+pub returns-in_err-checked_mul : goal.returns-in_err-checked_mul
+returns-in_err-checked_mul c = c.from_residual.ensures ∙ read_large _ c.loop-c.invariant (omega arith) (sym c.is_ascii_digit.ensures.value ∙ c.if-not-is_ascii_digit.false) refl (omega (arith, c.in_err-checked_mul.ensures))
 
-pub returns-then-c-gt-NINE : goal.returns-then-c-gt-NINE
-returns-then-c-gt-NINE c = read_high c.loop-i.invariant (omega arith) c.if-c-gt-NINE.true
+pub returns-in_err-value : goal.returns-in_err-value
+returns-in_err-value c =
+    let below = c.in_err-value.ensures in
+    c.from_residual-in_err-value.ensures ∙ read_large _ c.loop-c.invariant (omega arith) (sym c.is_ascii_digit.ensures.value ∙ c.if-not-is_ascii_digit.false) refl (omega (arith, below, c.in_ok-checked_mul.ensures, c.from.ensures))
 
-pub returns-then-value-gt-MOST : goal.returns-then-value-gt-MOST
-returns-then-value-gt-MOST c = read_large _ _ _ (read_digit c.digit.result c.loop-i.invariant (omega arith) c.if-c-lt-ZERO.false c.if-c-gt-NINE.false c.digit.ensures) c.if-value-gt-MOST.true
-
-pub loop-i-preserved : goal.loop-i-preserved
-loop-i-preserved c =
-    record {
-      most = omega arith;
-      small = omega arith;
-      rest = read_digit c.digit.result c.loop-i.invariant (omega arith) c.if-c-lt-ZERO.false c.if-c-gt-NINE.false c.digit.ensures;
-    }
+pub loop-c-preserved : goal.loop-c-preserved
+loop-c-preserved c = record { most = omega arith; small = omega arith; rest = read_digit c.in_ok-value.value c.loop-c.invariant (omega arith) (sym c.is_ascii_digit.ensures.value ∙ c.if-not-is_ascii_digit.false) (omega arith) }
 
 pub returns : goal.returns
-returns c = read-ends c.loop-i.invariant (omega arith)
+returns c = read-ends c.loop-c.invariant (omega arith)

@@ -1,24 +1,21 @@
 -- The numbers before `i` stand in the buffer up to `end`.
-use Rattle.text.proofs.Decimals.{write_room, write_turns, write_ends, separates}
+use Rattle.text.proofs.Decimals.{write_room, write_turns, write_ends, separates_more, separates_last}
+use Rattle.text.specs.Decimal.{separator}
 use Prim.Native.Nat.{◌+◌}
-use mathlib.Core.Path.{refl, ◌∙◌}
+use lib.ListN.{drop}
+use mathlib.Core.Path.{◌≡◌, ◌∙◌}
 use native.Mathlib.Omega.{arith}
 use Rattle.text.proofs.decimal.put_line.Goals as goal
-
-pub loop-i-init : goal.loop-i-init
-loop-i-init c = record { most = omega arith; long = refl; rest = refl; place = refl }
+use Rattle.text.proofs.decimal.put_line.Goals.{then-i-numbers, else-i-numbers}
 
 pub put_word-end-requires : goal.put_word-end-requires
-put_word-end-requires c = omega (arith, write_room c.long-n.result c.loop-i.invariant c.loop-i-test.true c.requires c.long-n.ensures.value c.long-n.ensures.upper_bound)
+put_word-end-requires c = write_room c.from.result c.loop-i.invariant c.loop-i-test.true c.requires c.from.ensures (omega (arith, c.type_inv.n.fits))
 
 pub loop-i-preserved : goal.loop-i-preserved
 loop-i-preserved c =
-    write_turns _ _ _ _ c.loop-i.invariant c.loop-i-test.true c.long-n.ensures.value c.long-n.ensures.upper_bound
-    (c.separator-after.ensures ∙ separates c.args.numbers.now (c.loop-i.i + 1))
-    c.put_word-end.auto.out c.put_word-end.ensures
-
-pub shape_of-out : goal.shape_of-out
-shape_of-out c = c.loop-i.invariant.long
+    let after : c.if-i-numbers.after ≡ separator (drop (c.loop-i.i + 1) c.args.numbers.now) = elim c.if-i-numbers.branch [ then-i-numbers w ↦ w.after-is ∙ separates_more _ _ w.if-i-numbers.true | else-i-numbers w ↦ w.after-is ∙ separates_last _ _ w.if-i-numbers.false ] in
+    let small = c.type_inv.numbers c.loop-i.i in
+    write_turns _ _ _ _ c.loop-i.invariant c.loop-i-test.true c.from.ensures (omega (arith, small.fits)) after c.put_word-end.auto.out c.put_word-end.ensures
 
 pub returns : goal.returns
 returns c = write_ends c.loop-i.invariant (omega arith)

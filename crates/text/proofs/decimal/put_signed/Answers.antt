@@ -35,21 +35,21 @@ long e = ap (λ (m : ℕ). length (long_decimal_of m)) e
 pub put_number-requires : goal.put_number-requires
 put_number-requires c =
     let sign = negative c.args.n c.ranges.n c.if-n-lt0.true in
-    omega (arith, ap length sign, long (amount_of c.args.n c.ranges.n c.amount.ensures), length-set c.args.out.now c.args.at 45)
+    omega (arith, ap length sign, long (amount_of c.args.n c.ranges.n (c.from.ensures ∙ c.unsigned_abs.ensures.value)), length-set c.args.out.now c.args.at 45)
 
 pub returns-then-n-lt0 : goal.returns-then-n-lt0
 returns-then-n-lt0 c =
     let sign = negative c.args.n c.ranges.n c.if-n-lt0.true in
     let room = ap length sign in
-    appended_as (ap (λ (m : ℕ). 45 ∷ long_decimal_of m) (amount_of c.args.n c.ranges.n c.amount.ensures) ∙ sign)
+    appended_as (ap (λ (m : ℕ). 45 ∷ long_decimal_of m) (amount_of c.args.n c.ranges.n (c.from.ensures ∙ c.unsigned_abs.ensures.value)) ∙ sign)
     (appended_then (appended_one _ _ _ _ (omega (arith, room)) refl) c.put_number.ensures)
 
 pub put_number-requires-2 : goal.put_number-requires-2
 put_number-requires-2 c =
     let digits = positive c.args.n c.ranges.n c.if-n-lt0.false in
-    omega (arith, ap length digits, long (amount_of c.args.n c.ranges.n c.amount-2.ensures))
+    omega (arith, ap length digits, long (amount_of c.args.n c.ranges.n (c.from-2.ensures ∙ c.unsigned_abs-2.ensures.value)))
 
 pub returns : goal.returns
 returns c =
     let digits = positive c.args.n c.ranges.n c.if-n-lt0.false in
-    appended_as (ap long_decimal_of (amount_of c.args.n c.ranges.n c.amount-2.ensures) ∙ digits) c.put_number-2.ensures
+    appended_as (ap long_decimal_of (amount_of c.args.n c.ranges.n (c.from-2.ensures ∙ c.unsigned_abs-2.ensures.value)) ∙ digits) c.put_number-2.ensures

@@ -1,17 +1,15 @@
--- The first b from `i` on is the one that is sought, until `i` is its place or the end.
-use Rattle.text.proofs.Texts.{seek_found, seek_turns, seek_ends}
-use mathlib.Core.Path.{refl}
-use native.Mathlib.Omega.{arith}
+-- The library's search finds the first b of the rest.
+use Rattle.std.proofs.Common.{rules, tests, arith, ◌≡◌, ℕ, ◌-◌, ◌∙◌, eqb, take, drop, length, length-drop}
+use Rattle.std.proofs.lemmas.Iterator.{YieldsList-from_slice}
+use Rattle.std.proofs.lemmas.Iterator.Search.{position_from_yields_List}
+use Rattle.text.specs.Text.{before}
+use Rattle.text.proofs.Texts.{before_found}
+use Rattle.text.proofs.Splitting.{before-most, rest_of}
 use Rattle.text.proofs.words.find.Goals as goal
 
-pub loop-i-init : goal.loop-i-init
-loop-i-init c = record { most = omega arith; first = refl }
-
-pub returns-then-line-i : goal.returns-then-line-i
-returns-then-line-i c = record { value = seek_found c.loop-i.invariant (omega arith) c.if-line-i.true; upper_bound = omega arith }
-
-pub loop-i-preserved : goal.loop-i-preserved
-loop-i-preserved c = seek_turns c.loop-i.invariant (omega arith) c.if-line-i.false
-
 pub returns : goal.returns
-returns c = record { value = seek_ends c.loop-i.invariant (omega arith); upper_bound = c.loop-i.invariant.most }
+returns c =
+    let rest = take (length c.args.line.now - c.args.from) (drop c.args.from c.args.line.now) in
+    let found = position_from_yields_List (λ (x : ℕ). eqb x c.args.b) _ _ c.position.result c.position.ensures.ran (YieldsList-from_slice rest (cc)) (λ x b q k. search (rules, tests)) in
+    let value : c.unwrap_or.result ≡ before c.args.b (drop c.args.from c.args.line.now) = rw (rest_of c.args.line.now c.args.from) at (c.unwrap_or.ensures ∙ before_found c.args.b rest c.position.result found) in
+    record { value = omega (arith, value); upper_bound = omega (arith, value, before-most c.args.b (drop c.args.from c.args.line.now), length-drop c.args.from c.args.line.now) }
