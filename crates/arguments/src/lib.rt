@@ -1,12 +1,11 @@
 // What the programs do with their arguments, and what they say on standard error.
 #![tactic(auto)]
 
-ghost use Rattle.std.specs.Prelude.{◌≡◌, ◌≤◌, length, take, is_ok, IfOk};
+ghost use Rattle.std.specs.Prelude.{◌≡◌, ◌≤◌, ◌<◌, length, take, is_ok, IfOk, IfSome};
 
 use std::env::{Env, FillError};
 use std::io;
 use std::io::{IsTerminal, Write};
-use text::words;
 
 // The system's number for a name that is too long.
 const NAME_TOO_LONG: i32 = 36;
@@ -14,76 +13,54 @@ const NAME_TOO_LONG: i32 = 36;
 // How many arguments there are, with the program's name.
 pub fn count(rt: HostRuntime) -> usize {
     let mut space = [0u8; 1];
-    for i in 0..usize::MAX {
-        if let Err(FillError::NotPresent) = rt.arg(i, &mut space) {
-            return i;
-        }
-    }
-    usize::MAX
+    (0..usize::MAX)
+        .find(|i| matches!(rt.arg(*i, &mut space), Err(FillError::NotPresent)))
+        .unwrap_or(usize::MAX)
 }
 
 // Puts an argument at the start of a buffer, and answers its length. There may be no room for it.
 pub fn read(rt: HostRuntime, i: usize, space: &mut [u8]) -> io::Result<usize>
     ensures { IfOk result (λ n. (n ≤ length space.new) × (n ≡ length (take n space.new))) }
 {
-    match rt.arg(i, space) {
-        Ok(n) => Ok(n),
-        Err(_) => Err(io::Error::from_raw_os_error(NAME_TOO_LONG)),
-    }
+    rt.arg(i, space)
+        .map_err(|_| io::Error::from_raw_os_error(NAME_TOO_LONG))
 }
 
 // The same; 0 where there is no such argument, or no room for it.
 fn argument(rt: HostRuntime, i: usize, space: &mut [u8]) -> usize
     ensures { (result ≤ length space.new) × (result ≡ length (take result space.new)) }
 {
-    match read(rt, i, space) {
-        Ok(n) => n,
-        Err(_) => 0,
-    }
+    read(rt, i, space).unwrap_or(0)
 }
 
 // Whether an argument is this word.
 pub fn is(rt: HostRuntime, i: usize, word: &[u8]) -> bool {
     let mut space = [0u8; 4096];
     let n = argument(rt, i, &mut space);
-    words::same(&space[..n], word)
+    &space[..n] == word
 }
 
 // Whether an argument is an option: it begins with `-`, and more follows.
 pub fn is_option(rt: HostRuntime, i: usize) -> bool {
     let mut space = [0u8; 4096];
     let n = argument(rt, i, &mut space);
-    if n < 2 {
-        return false;
-    }
-    space[0] == b'-'
+    2 <= n && space[0] == b'-'
 }
 
-// The first argument that is an option; their number where none is.
-pub fn first_option(rt: HostRuntime, count: usize) -> usize {
-    let mut i: usize = 1;
-    while i < count {
-        if is_option(rt, i) {
-            return i;
-        }
-        i += 1;
-    }
-    count
+// The first of so many arguments that is an option.
+pub fn first_option(rt: HostRuntime, count: usize) -> Option<usize>
+    ensures { IfSome result (λ i. (0 < i) × (i < count)) }
+{
+    (1..count).find(|i| is_option(rt, *i))
 }
 
 // Writes the parts of a message.
-fn write_parts(
-    rt: HostRuntime,
-    first: &[u8],
-    second: &[u8],
-    third: &[u8],
-    last: &[u8],
-) -> io::Result<()> {
+fn write_parts(rt: HostRuntime, parts: &[&[u8]]) -> io::Result<()> {
     let mut out = rt.stderr();
-    out.write_all(first)?;
-    out.write_all(second)?;
-    out.write_all(third)?;
-    out.write_all(last)
+    for part in parts {
+        out.write_all(part)?;
+    }
+    Ok(())
 }
 
 // Tells that a program does not take an argument.
@@ -91,7 +68,17 @@ pub fn refuse(rt: HostRuntime, program: &[u8], i: usize) {
     let mut space = [0u8; 4096];
     let n = argument(rt, i, &mut space);
     let last = b" (--help tells which there are)\n";
-    let _told = write_parts(rt, program, b": unknown argument: ", &space[..n], last).is_ok();
+    let _told = write_parts(rt, &[program, b": unknown argument: ", &space[..n], last]).is_ok();
+}
+
+// Answers an argument that is no capture: --help by saying what the program is, any other by telling
+// that the program does not take it.
+pub fn answer_option(rt: HostRuntime, program: &[u8], i: usize, help: &[u8]) {
+    if is(rt, i, b"--help") {
+        written(rt, program, rt.stdout().write_all(help));
+    } else {
+        refuse(rt, program, i);
+    }
 }
 
 // Tells what is awaited, where standard input is a terminal.
@@ -105,24 +92,20 @@ pub fn hint(rt: HostRuntime, text: &[u8]) {
 fn words_end(message: &[u8]) -> usize
     ensures { result ≤ length message.now }
 {
-    let end = words::find(message, 0, b'(');
-    if end == message.len() {
-        return end;
-    }
-    if end == 0 {
-        return 0;
-    }
-    end - 1
+    message
+        .iter()
+        .position(|c| *c == b'(')
+        .map_or(message.len(), |open| open.saturating_sub(1))
 }
 
 // Tells that a program cannot read or write what has this name, and why.
 pub fn tell(rt: HostRuntime, program: &[u8], name: &[u8], error: io::Error) {
-    let _told = write_parts(rt, program, b": ", name, b": ").is_ok();
+    let _told = write_parts(rt, &[program, b": ", name, b": "]).is_ok();
     match format!(in rt.alloc(); "{error}") {
         Ok(text) => {
             let message = text.as_bytes();
             let n = words_end(message);
-            let _why = write_parts(rt, &message[..n], b"\n", b"", b"").is_ok();
+            let _why = write_parts(rt, &[&message[..n], b"\n"]).is_ok();
         }
         Err(_) => {
             let _why = rt.stderr().write_all(b"out of memory\n").is_ok();

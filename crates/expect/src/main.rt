@@ -5,14 +5,13 @@
 ghost use Rattle.std.specs.Prelude.{◌≤◌, length};
 
 use std::io::Write;
-use text::words;
 
-// Says what the program is.
-fn help(rt: HostRuntime) {
-    let text =
-        b"usage: expect [--help] [FILE]\n\nWrites the capture that is expected of an undisturbed chip for the capture FILE, standard\ninput where there is none or for -, to standard output: the same records, but each read\nwith the byte that the model answers. A capture that is refused ends before the record\nthat is, and standard error has the number in a line of its own:\n\n6    no capture: nothing is written\n7    unknown version: nothing is written\n8    bad record, or cut off\n\nThe exit status is always 0. Where reading or writing fails, standard error says so.\n";
-    arguments::written(rt, b"expect", rt.stdout().write_all(text));
-}
+// The program that says all this.
+const PROGRAM: &[u8] = b"expect";
+
+// What the program is.
+const HELP: &[u8] =
+    b"usage: expect [--help] [FILE]\n\nWrites the capture that is expected of an undisturbed chip for the capture FILE, standard\ninput where there is none or for -, to standard output: the same records, but each read\nwith the byte that the model answers. A capture that is refused ends before the record\nthat is, and standard error has the number in a line of its own:\n\n6    no capture: nothing is written\n7    unknown version: nothing is written\n8    bad record, or cut off\n\nThe exit status is always 0. Where reading or writing fails, standard error says so.\n";
 
 // Writes what is expected for standard input.
 fn expect_input(rt: HostRuntime, name: &[u8])
@@ -29,13 +28,13 @@ fn expect_input(rt: HostRuntime, name: &[u8])
 fn expect_named(rt: HostRuntime, name: &[u8])
     requires { length name.now ≤ 4096 }
 {
-    if words::same(name, b"-") {
+    if name == b"-".as_slice() {
         expect_input(rt, name);
         return;
     }
     match input::opened(rt, name) {
         Ok(mut file) => expect_blocks::expect(rt, &mut file, name),
-        Err(e) => arguments::tell(rt, b"expect", name, e),
+        Err(e) => arguments::tell(rt, PROGRAM, name, e),
     }
 }
 
@@ -44,7 +43,7 @@ fn expect_argument(rt: HostRuntime) {
     let mut space = [0u8; 4096];
     match arguments::read(rt, 1, &mut space) {
         Ok(n) => expect_named(rt, &space[..n]),
-        Err(e) => arguments::tell(rt, b"expect", b"an argument", e),
+        Err(e) => arguments::tell(rt, PROGRAM, b"an argument", e),
     }
 }
 
@@ -52,23 +51,14 @@ fn main(rt: HostRuntime) {
     let count = arguments::count(rt);
     if count < 2 {
         expect_input(rt, b"standard input");
-        return;
-    }
-    let option = arguments::first_option(rt, count);
-    if option < count {
-        if arguments::is(rt, option, b"--help") {
-            help(rt);
-            return;
-        }
-        arguments::refuse(rt, b"expect", option);
-        return;
-    }
-    if 2 < count {
+    } else if let Some(i) = arguments::first_option(rt, count) {
+        arguments::answer_option(rt, PROGRAM, i, HELP);
+    } else if 2 < count {
         let _told = rt
             .stderr()
             .write_all(b"expect: one capture at a time (--help tells more)\n")
             .is_ok();
-        return;
+    } else {
+        expect_argument(rt);
     }
-    expect_argument(rt);
 }

@@ -3,33 +3,12 @@
 
 pub mod progress;
 
-ghost use Rattle.std.specs.Prelude.{◌≡◌, ◌+◌, ◌≤◌, ◌<◌, ◌^◌, length, take};
+ghost use Rattle.std.specs.Prelude.{◌≡◌, ◌+◌, ◌≤◌, ◌<◌, ◌^◌, length, take, IfOk};
 
 use progress::Watch;
 use std::fs::File;
 use std::io;
 use std::io::Read;
-
-// How many bytes were read, whether a read failed, and why.
-#[derive(Clone, Copy)]
-pub struct Filled {
-    pub count: usize,
-    pub failed: bool,
-    pub error: Option<io::Error>,
-    pub watch: Watch,
-}
-
-// So many bytes were read, and no read failed.
-fn read_so_far(count: usize, watch: Watch) -> Filled
-    ensures { result.count ≡ count }
-{
-    Filled {
-        count,
-        failed: false,
-        error: None,
-        watch,
-    }
-}
 
 // The file of this name, which has to be text: today's library opens no other.
 pub fn opened(rt: HostRuntime, name: &[u8]) -> io::Result<File> {
@@ -39,39 +18,27 @@ pub fn opened(rt: HostRuntime, name: &[u8]) -> io::Result<File> {
     }
 }
 
-// Reads until the block is full, the input ends or a read fails. `place` is that of its first
-// record.
+// Reads until the block is full or the input ends, and answers how many bytes that were. `place` is
+// that of the block's first record.
 pub fn fill<R: Read>(
     rt: HostRuntime,
     input: &mut R,
     block: &mut [u8],
     place: usize,
     program: &[u8],
-    started: Watch,
-) -> Filled
+    watch: &mut Watch,
+) -> io::Result<usize>
     requires { place + length block.old < 2 ^ 64 }
-    ensures { (result.count ≤ length block.new) × (result.count ≡ length (take result.count block.new)) }
+    ensures { IfOk result (λ n. (n ≤ length block.new) × (n ≡ length (take n block.new))) }
 {
-    let mut watch = started;
     let mut used: usize = 0;
     while used < block.len() {
-        match input.read(&mut block[used..]) {
-            Err(e) => {
-                return Filled {
-                    count: used,
-                    failed: true,
-                    error: Some(e),
-                    watch,
-                };
-            }
-            Ok(n) => {
-                if n == 0 {
-                    return read_so_far(used, watch);
-                }
-                used += n;
-                watch = progress::tell(rt, watch, program, place + used / 4);
-            }
+        let n = input.read(&mut block[used..])?;
+        if n == 0 {
+            break;
         }
+        used += n;
+        watch.tell(rt, program, place + used / 4);
     }
-    read_so_far(used, watch)
+    Ok(used)
 }

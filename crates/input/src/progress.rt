@@ -4,36 +4,56 @@ use std::io::{IsTerminal, Write};
 use std::time::Clock;
 
 // The second in which this was told last, whether to tell at all, and the records that were told.
-#[derive(Clone, Copy)]
+#[derive(Drop)]
 pub struct Watch {
     second: u64,
     tells: bool,
     records: usize,
 }
 
+impl Watch {
+    // A watch that tells nothing.
+    pub fn silent() -> Watch {
+        Watch {
+            second: 0,
+            tells: false,
+            records: 0,
+        }
+    }
+
+    // A watch that begins now, and tells where standard error is a terminal.
+    pub fn start(rt: HostRuntime) -> Watch {
+        Watch {
+            second: second(rt),
+            tells: rt.stderr().is_terminal(),
+            records: 0,
+        }
+    }
+
+    // Tells how many records the program has so far, where another second has begun and they are
+    // more than were told.
+    pub fn tell(&mut self, rt: HostRuntime, program: &[u8], records: usize) {
+        if !self.tells || records <= self.records {
+            return;
+        }
+        let now = second(rt);
+        if now != self.second && write_records(rt, program, records).is_ok() {
+            self.second = now;
+            self.records = records;
+        }
+    }
+
+    // Clears what was told.
+    pub fn stop(self, rt: HostRuntime) {
+        if 0 < self.records {
+            let _cleared = rt.stderr().write_all(b"\r\x1b[K").is_ok();
+        }
+    }
+}
+
 // The second that it is.
 fn second(rt: HostRuntime) -> u64 {
-    match rt.since_1970() {
-        Ok(now) => now.as_secs(),
-        Err(_) => 0,
-    }
-}
-
-// A watch that tells nothing.
-pub fn silent() -> Watch {
-    Watch {
-        second: 0,
-        tells: false,
-        records: 0,
-    }
-}
-
-pub fn start(rt: HostRuntime) -> Watch {
-    Watch {
-        second: second(rt),
-        tells: rt.stderr().is_terminal(),
-        records: 0,
-    }
+    rt.since_1970().map_or(0, |now| now.as_secs())
 }
 
 // Writes how many records the program has so far.
@@ -42,35 +62,4 @@ fn write_records(rt: HostRuntime, program: &[u8], records: usize) -> io::Result<
     out.write_all(b"\r")?;
     out.write_all(program)?;
     write!(out, ": {records} records")
-}
-
-// Tells how many records the program has so far, where another second has begun and they are more
-// than were told.
-pub fn tell(rt: HostRuntime, w: Watch, program: &[u8], records: usize) -> Watch {
-    if !w.tells {
-        return w;
-    }
-    if records <= w.records {
-        return w;
-    }
-    let now = second(rt);
-    if now == w.second {
-        return w;
-    }
-    if write_records(rt, program, records).is_err() {
-        return w;
-    }
-    Watch {
-        second: now,
-        tells: true,
-        records,
-    }
-}
-
-// Clears what was told.
-pub fn stop(rt: HostRuntime, w: Watch) {
-    if 0 < w.records {
-        let mut out = rt.stderr();
-        let _written = out.write_all(b"\r\x1b[K").is_ok();
-    }
 }

@@ -5,15 +5,12 @@
 
 ghost use Rattle.std.specs.Prelude.{◌≤◌, length};
 
-use std::io::Write;
-use text::words;
+// The program that says all this.
+const PROGRAM: &[u8] = b"replay";
 
-// Says what the program is.
-fn help(rt: HostRuntime) {
-    let text =
-        b"usage: replay [--help] [FILE ..]\n\nReplays each capture FILE on the model, standard input where there is none or for -,\nand writes a line for each, after its name where there are several:\n\nagreed                      every read saw what the model answers\ndiffers PLACE SEEN MODEL    the first read that did not, counted from 0\nrefused NUMBER PLACE        6 no capture, 7 unknown version, 8 bad record, or cut off\n\nThe exit status is always 0; the answer is the line. Where reading or writing fails,\nstandard error says so, and there is no line.\n";
-    arguments::written(rt, b"replay", rt.stdout().write_all(text));
-}
+// What the program is.
+const HELP: &[u8] =
+    b"usage: replay [--help] [FILE ..]\n\nReplays each capture FILE on the model, standard input where there is none or for -,\nand writes a line for each, after its name where there are several:\n\nagreed                      every read saw what the model answers\ndiffers PLACE SEEN MODEL    the first read that did not, counted from 0\nrefused NUMBER PLACE        6 no capture, 7 unknown version, 8 bad record, or cut off\n\nThe exit status is always 0; the answer is the line. Where reading or writing fails,\nstandard error says so, and there is no line.\n";
 
 // Replays standard input.
 fn replay_input(rt: HostRuntime, several: bool, name: &[u8]) -> bool
@@ -26,17 +23,18 @@ fn replay_input(rt: HostRuntime, several: bool, name: &[u8]) -> bool
     replay_file::replay(rt, &mut rt.stdin(), several, name)
 }
 
-// Replays the capture of this name.
+// Replays the capture of this name. Its like in `expect` answers nothing: one function for both would
+// take a closure with a contract, and be longer than the two.
 fn replay_named(rt: HostRuntime, several: bool, name: &[u8]) -> bool
     requires { length name.now ≤ 4096 }
 {
-    if words::same(name, b"-") {
+    if name == b"-".as_slice() {
         return replay_input(rt, several, name);
     }
     match input::opened(rt, name) {
         Ok(mut file) => replay_file::replay(rt, &mut file, several, name),
         Err(e) => {
-            arguments::tell(rt, b"replay", name, e);
+            arguments::tell(rt, PROGRAM, name, e);
             true
         }
     }
@@ -48,7 +46,7 @@ fn replay_argument(rt: HostRuntime, several: bool, i: usize) -> bool {
     match arguments::read(rt, i, &mut space) {
         Ok(n) => replay_named(rt, several, &space[..n]),
         Err(e) => {
-            arguments::tell(rt, b"replay", b"an argument", e);
+            arguments::tell(rt, PROGRAM, b"an argument", e);
             true
         }
     }
@@ -56,12 +54,10 @@ fn replay_argument(rt: HostRuntime, several: bool, i: usize) -> bool {
 
 // Replays the captures that the arguments name, until an answer cannot be written.
 fn replay_all(rt: HostRuntime, count: usize) {
-    let mut i: usize = 1;
-    while i < count {
+    for i in 1..count {
         if !replay_argument(rt, 2 < count, i) {
             return;
         }
-        i += 1;
     }
 }
 
@@ -69,16 +65,9 @@ fn main(rt: HostRuntime) {
     let count = arguments::count(rt);
     if count < 2 {
         replay_input(rt, false, b"standard input");
-        return;
-    }
-    let option = arguments::first_option(rt, count);
-    if count <= option {
+    } else if let Some(i) = arguments::first_option(rt, count) {
+        arguments::answer_option(rt, PROGRAM, i, HELP);
+    } else {
         replay_all(rt, count);
-        return;
     }
-    if arguments::is(rt, option, b"--help") {
-        help(rt);
-        return;
-    }
-    arguments::refuse(rt, b"replay", option);
 }

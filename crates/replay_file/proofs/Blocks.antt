@@ -1,5 +1,5 @@
 -- The bytes that were read, block by block: the answer is that of all of them.
-use Prim.Native.Nat.{ℕ, ◌*◌, ◌/◌, ◌≤◌, ◌<◌}
+use Prim.Native.Nat.{ℕ, ◌*◌, ◌/◌, ◌≤◌}
 use mathlib.Core.Path.{◌≡◌, refl, sym, ap, ◌∙◌}
 use mathlib.Core.Bool.{false}
 use mathlib.Core.List.{List, [], ◌++◌, append_assoc}
@@ -36,14 +36,6 @@ module _ {p₀ p : Progress} (read : Read p₀ p) where
   -- the answer stands
   pub read-stands : agreeing p.replayed.outcome ≡ false → OfRest p₀ p.replayed
   read-stands e = record { bytes = read.bytes ++ []; answers = sym (rest-none p [] e) ∙ read.leads [] }
-
-  -- the last bytes
-  pub read-ends : (r : Replayed) (bytes : List ℕ) → r ≡ rest_of p bytes → OfRest p₀ r
-  read-ends r bytes e = record { bytes = read.bytes ++ bytes; answers = e ∙ read.leads bytes }
-
--- A file that is shorter than its header.
-pub short_of : (p : Progress) (header : List ℕ) (r : Replayed) → (length header < 8 → rest_of p [] ≡ capture_of header) → length header < 8 → r ≡ rest_of p [] → OfFile r
-short_of p header r f h e = record { bytes = header; answers = e ∙ f h }
 
 -- A file whose header was read, and its rest.
 pub file_of : (p : Progress) (header : List ℕ) (r : Replayed) → (8 ≤ length header → (rest : List ℕ) → rest_of p (drop 8 header ++ rest) ≡ capture_of (header ++ rest)) → length header ≡ 8 → OfRest p r → OfFile r

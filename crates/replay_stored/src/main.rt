@@ -27,12 +27,9 @@ fn replayed(rt: HostRuntime, path: &[u8]) -> bool
 }
 
 fn main(rt: HostRuntime) {
-    let mut n: u32 = 0;
-    while n < MOST {
-        let path = name(n);
-        if !replayed(rt, &path) {
+    for n in 0..MOST {
+        if !replayed(rt, &name(n)) {
             return;
         }
-        n += 1;
     }
 }

@@ -9,15 +9,10 @@ write_next-requires c =
     let done = c.go_on-q in
     record {
       bytes = c.args.block.now;
-      goes_on = whole_block c.args.p done.result c.args.block.now (take (4 * done.result.count) done.new.bytes) c.requires done.ensures.by_index;
+      goes_on = whole_block c.args.p done.result c.args.block.now (take (4 * done.result.count) done.new.bytes) c.told-block done.ensures.by_index;
     }
 
-pub returns-in-Ok-clause-by_index : goal.returns-in-Ok-clause-by_index
-returns-in-Ok-clause-by_index c =
+pub returns-clause-by_index : goal.returns-clause-by_index
+returns-clause-by_index c =
     let done = c.go_on-q in
-    whole_block c.args.p done.result c.args.block.now (take (4 * done.result.count) done.new.bytes) c.requires done.ensures.by_index
-
-pub returns-in-Err-clause-by_index : goal.returns-in-Err-clause-by_index
-returns-in-Err-clause-by_index c =
-    let done = c.go_on-q in
-    whole_block c.args.p done.result c.args.block.now (take (4 * done.result.count) done.new.bytes) c.requires done.ensures.by_index
+    whole_block c.args.p done.result c.args.block.now (take (4 * done.result.count) done.new.bytes) c.told-block done.ensures.by_index

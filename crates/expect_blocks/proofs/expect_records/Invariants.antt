@@ -1,16 +1,6 @@
 use Rattle.expect_blocks.proofs.Blocks.{Led}
-use Prim.Native.Nat.{◌+◌, ◌*◌, ◌≤◌}
-use mathlib.Core.Path.{◌≡◌}
-use lib.ListN.{length}
+use Prim.Native.Nat.{◌*◌, ◌≤◌}
 use Rattle.expect_blocks.proofs.expect_records.Given as goal
 
-abbrev pub invariant-loop-blocks : goal.invariant-loop-blocks
-invariant-loop-blocks g l =
-    record {
-      long : length l.block ≡ 32768;
-      place : l.done + 8192 * l.blocks ≤ 9223372036854775808;
-      led : Led l.initial.p l.p;
-    }
-
-abbrev pub decreases-loop-blocks : goal.decreases-loop-blocks
-decreases-loop-blocks g l = l.blocks
+abbrev pub invariant-loop : goal.invariant-loop
+invariant-loop g l = (l.done ≤ 8192 * l.counter) × Led l.fn.begun l.p

@@ -5,4 +5,4 @@ use Rattle.text.proofs.Decimals.{byte-room}
 use Rattle.expect_blocks.proofs.tell_number.Goals as goal
 
 pub put_word-end-requires : goal.put_word-end-requires
-put_word-end-requires c = omega (arith, byte-room c.args.number (search rules))
+put_word-end-requires c = omega (arith, byte-room c.from.result (search rules))

@@ -11,5 +11,5 @@ returns c =
     let bytes = c.args.bytes.now in
     let n = length bytes - 4 * (length bytes / 4) in
     let whole : length bytes ≤ 4 * (length bytes / 4) + n = omega arith in
-    let done = c.go_on-s in
-    c.finish.ensures ∙ rest-ends c.args.p done.result.progress bytes n whole done.ensures.by_index
+    let done = c.go_on-q in
+    c.finish.ensures ∙ rest-ends c.args.p done.result bytes n whole done.ensures.by_index
