@@ -6,7 +6,7 @@
 // A contract equates the whole answer with a definition of the device's `specs/Forecast.antt`.
 #![tactic(auto)]
 
-ghost use Rattle.std.specs.Prelude.{◌≡◌, ℕ, ◌≤◌};
+ghost use Rattle.std.specs.Prelude.{◌≡◌, ℕ, ◌≤◌, IfSome, IfNone};
 ghost use Rattle.device.specs.Ranges.{part_of};
 ghost use Rattle.device.specs.Calls.{ticks_of};
 ghost use Rattle.device.specs.Transmitter.{line};
@@ -17,49 +17,29 @@ use ranges::part_of;
 use sheet::answer;
 use sheet::part::NONE;
 
-// The number that the forecast answers, and the part of the state that is bad.
+// Why the forecast is refused: the number that it answers, and the part of the state that is bad.
 #[derive(Clone, Copy)]
 struct Refusal {
     number: u8,
     part: u8,
 }
 
-// Why the forecast is refused; number 0 where it is not.
-fn refused(s: State) -> Refusal
-    ensures number_value { result.number ≡ forecast_number s }
-    ensures part_value { result.part ≡ part_of s }
+// The refusal of the forecast; none where it is not refused.
+#[tactic(auto, unfolding(device::specs::Forecast::forecast_number))]
+fn refused(s: State) -> Option<Refusal>
+    ensures refused { IfSome result (λ why. (forecast_number s ≡ 0 → ⊥) × (why.number ≡ forecast_number s) × (why.part ≡ part_of s)) }
+    ensures asked { IfNone result (forecast_number s ≡ 0) }
 {
     let part = part_of(s);
     if part != NONE {
         let number = answer::MALFORMED;
-        return Refusal { number, part };
+        return Some(Refusal { number, part });
     }
-    Refusal {
-        number: forecast::number(s),
-        part,
+    let number = forecast::number(s);
+    if number != answer::DONE {
+        return Some(Refusal { number, part });
     }
-}
-
-// The forecast's answer.
-fn forecasted(number: u8, part: u8, ticks: u32) -> Forecasted
-    ensures { result ≡ record { number = number; part = part; ticks = ticks } }
-{
-    Forecasted {
-        number,
-        part,
-        ticks,
-    }
-}
-
-// The level's answer.
-fn leveled(number: u8, part: u8, level: u8) -> Leveled
-    ensures { result ≡ record { number = number; part = part; level = level } }
-{
-    Leveled {
-        number,
-        part,
-        level,
-    }
+    None
 }
 
 // The forecast: the ticks until queue and shift register are both empty. Whatever number of ticks
@@ -70,12 +50,18 @@ pub fn forecast(s: State) -> Forecasted
     ensures every_tick { result.number ≡ 0 → (t : ℕ) → Foretold s result.ticks t }
     ensures at_most { result.ticks ≤ 817876800 }
 {
-    let why = refused(s);
-    let number = why.number;
-    if number != answer::DONE {
-        return forecasted(number, why.part, 0);
+    match refused(s) {
+        Some(Refusal { number, part }) => Forecasted {
+            number,
+            part,
+            ticks: 0,
+        },
+        None => Forecasted {
+            number: answer::DONE,
+            part: NONE,
+            ticks: forecast::ticks_to_come(s),
+        },
     }
-    forecasted(answer::DONE, NONE, forecast::ticks_to_come(s))
 }
 
 // The level of the transmitter's line after t ticks.
@@ -83,12 +69,18 @@ pub fn level(s: State, t: u32) -> Leveled
     ensures outcome { result ≡ level_of s t }
     ensures ticked { result.number ≡ 0 → result.level ≡ line (ticks_of t s).frame }
 {
-    let why = refused(s);
-    let number = why.number;
-    if number != answer::DONE {
-        return leveled(number, why.part, 0);
+    match refused(s) {
+        Some(Refusal { number, part }) => Leveled {
+            number,
+            part,
+            level: 0,
+        },
+        None => Leveled {
+            number: answer::DONE,
+            part: NONE,
+            level: forecast::level_after(s, t),
+        },
     }
-    leveled(answer::DONE, NONE, forecast::level_after(s, t))
 }
 
 // At most n ticks, until queue and shift register are both empty.

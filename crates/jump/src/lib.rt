@@ -19,6 +19,7 @@ use sheet::part::NONE;
 
 // The jumps of n ticks: one up to the first pulse, one up to each later pulse, and one for the ticks
 // behind the last, if there are any.
+#[tactic(auto, unfolding(crate::specs::Count::jump_count))]
 fn count(b: Baud, n: u32) -> u32
     requires { 1 ≤ n → 1 ≤ b.divisor → 1 ≤ b.k }
     ensures { result ≡ jump_count b.divisor b.k n }
@@ -65,14 +66,12 @@ pub fn run(s: State, n: u32) -> JumpRan
     ensures as_run { record { number = result.number; part = result.part; used = result.used; state = result.state } ≡ run_of s n }
     ensures at_most { 1 ≤ s.baud.divisor → result.jumps ≤ 2 + n / s.baud.divisor }
 {
-    let b = s.baud;
     let r = foretell::run(s, n);
-    let state = r.state;
     JumpRan {
         number: r.number,
         part: r.part,
         used: r.used,
-        jumps: count(b, r.used),
-        state,
+        jumps: count(s.baud, r.used),
+        state: r.state,
     }
 }

@@ -37,9 +37,9 @@ tick_refused : (s : State) → well_formed s ≡ false → malformed s ≡ tick_
 unfolding tick_of
 tick_refused s w = simp w
 
-pub ticks-one : (s : State) → ticks_answer s 1 ≡ tick_of s
+pub ticks_one : (s : State) → ticks_answer s 1 ≡ tick_of s
 unfolding ticks_answer
-ticks-one s = go (well_formed s) refl
+ticks_one s = go (well_formed s) refl
   where
     go : (w : Bool) → well_formed s ≡ w → ticks_answer s 1 ≡ tick_of s
     go true e = rw e (tick_answered s e)

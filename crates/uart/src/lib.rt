@@ -18,7 +18,7 @@ use ranges::part_of;
 use sheet::part::NONE;
 use sheet::{answer, bits, limits};
 
-// Every output 0, as a refusal answers.
+// Every output 0, as a refusal answers. (Of a derived Default only the fields are known, each apart.)
 fn no_outputs() -> Outputs
     ensures { result ≡ no_outputs }
 {
@@ -82,6 +82,7 @@ pub fn fresh() -> State
 }
 
 // Reset.
+#[tactic(auto, unfolding(device::specs::Calls::reset_of, device::specs::Calls::done))]
 pub fn reset(s: State) -> Answer
     ensures { result ≡ reset_of s }
 {
@@ -109,11 +110,9 @@ pub fn read(s: State, address: u8) -> Answer
     }
     if bus::takes(s, address) {
         let r = step::take(s);
-        let rx = r.rx;
-        let latches = r.latches;
         let mut taken = s;
-        taken.rx = rx;
-        taken.latches = latches;
+        taken.rx = r.rx;
+        taken.latches = r.latches;
         return answered_with(taken, outputs(taken), byte);
     }
     let after = step::after_read(s, address);
@@ -135,28 +134,24 @@ pub fn write(s: State, address: u8, byte: u8) -> Answer
     if bus::reaches_queue(s, address) {
         if address == bits::THR {
             let p = step::put(s, byte);
-            let tx = p.tx;
-            let latches = p.latches;
             let mut queued = s;
-            queued.tx = tx;
-            queued.latches = latches;
+            queued.tx = p.tx;
+            queued.latches = p.latches;
             return answered_with(queued, outputs(queued), 0);
         }
         let set = step::write_queue(s, address, byte);
         return answered_with(set, outputs(set), 0);
     }
     let n = step::numbers(s, address, byte);
-    let registers = n.registers;
-    let baud = n.baud;
-    let latches = n.latches;
     let mut written = s;
-    written.registers = registers;
-    written.baud = baud;
-    written.latches = latches;
+    written.registers = n.registers;
+    written.baud = n.baud;
+    written.latches = n.latches;
     answered_with(written, outputs(written), 0)
 }
 
 // The pin SIN at a level.
+#[tactic(auto, unfolding(device::specs::Calls::sin_of, device::specs::Calls::done))]
 pub fn set_sin(s: State, level: u8) -> Answer
     ensures { result ≡ sin_of s level }
 {
@@ -171,6 +166,7 @@ pub fn set_sin(s: State, level: u8) -> Answer
 }
 
 // The modem pins CTS, DSR, RI, DCD asserted as bits 0..3 say.
+#[tactic(auto, unfolding(device::specs::Calls::modem_of, device::specs::Calls::done))]
 pub fn set_modem(s: State, levels: u8) -> Answer
     ensures { result ≡ modem_of s levels }
 {
@@ -185,6 +181,7 @@ pub fn set_modem(s: State, levels: u8) -> Answer
 }
 
 // One tick of the clock.
+#[tactic(auto, using(crate::proofs::Laws::ticks_one))]
 pub fn tick(s: State) -> Answer
     ensures { result ≡ tick_of s }
 {
@@ -200,9 +197,8 @@ pub fn ticks(s: State, n: u32) -> Answer
         return refused(answer::MALFORMED, part, s);
     }
     if n < s.baud.k {
-        let k = s.baud.k - n;
         let mut counted = s;
-        counted.baud.k = k;
+        counted.baud.k = s.baud.k - n;
         return answered_with(counted, outputs(counted), 0);
     }
     let later = clock::advance(s, n);
@@ -210,6 +206,7 @@ pub fn ticks(s: State, n: u32) -> Answer
 }
 
 // The output pins as they are.
+#[tactic(auto, unfolding(device::specs::Calls::pins_of))]
 pub fn pins(s: State) -> Looked
     ensures { result ≡ pins_of s }
 {

@@ -1,25 +1,20 @@
 -- The level at the place that the formula gives, which is that after the ticks.
-use Rattle.device.specs.Forecast.{forecast_number, level_of}
-use mathlib.Core.Path.{◌≡◌, sym, ◌∙◌}
+use Rattle.device.specs.Forecast.{level_of}
+use mathlib.Core.Path.{sym, ◌∙◌}
 use borrow.Author.Tests.{eq-eqb, ne_eqb}
 use Rattle.foretell.proofs.level.Goals as goal
 
-pub returns-then-number-ne-DONE : goal.returns-then-number-ne-DONE
+pub returns-in-Some : goal.returns-in-Some
 unfolding level_of
-returns-then-number-ne-DONE c =
-    let s = c.args.s in
-    let same = c.refused-why.ensures.number_value in
-    let told = c.leveled.ensures in
-    let some : forecast_number s ≡ 0 → ⊥ = λ e. c.if-number-ne-DONE.true (same ∙ e) in
-    record { outcome = rw (told, same, c.refused-why.ensures.part_value) (simp (ne_eqb _ _ some)); ticked = λ e. absurd (c.if-number-ne-DONE.true (rw told at e)) }
+returns-in-Some c =
+    let (some, number, part) = c.in-Some.ensures.refused in
+    record { outcome = rw (number, part) (simp (ne_eqb _ _ some)); ticked = λ e. absurd (some (sym number ∙ e)) }
 
 pub level_after-requires : goal.level_after-requires
-level_after-requires c = sym c.refused-why.ensures.number_value ∙ c.if-number-ne-DONE.false
+level_after-requires c = c.in-None.ensures.asked
 
-pub returns : goal.returns
+pub returns-in-None : goal.returns-in-None
 unfolding level_of
-returns c =
-    let none = sym c.refused-why.ensures.number_value ∙ c.if-number-ne-DONE.false in
-    let told = c.leveled-2.ensures in
+returns-in-None c =
     let after = c.level_after.ensures in
-    record { outcome = rw (told, after.foretold) (simp (eq-eqb _ _ none)); ticked = λ _. rw told after.ticked }
+    record { outcome = rw after.foretold (simp (eq-eqb _ _ c.in-None.ensures.asked)); ticked = λ _. after.ticked }

@@ -2,7 +2,6 @@
 use Rattle.device.specs.Calls.{ticks_answer}
 use Rattle.uart.proofs.Laws.{answered, counts_down}
 use Rattle.queue.proofs.Laws.{length_mapped}
-use native.Mathlib.Omega.{arith}
 use mathlib.Core.Path.{ap, ◌∙◌}
 use borrow.Author.Tests.{eq-eqb, ne_eqb}
 use borrow.Author.Rules.{rules}
@@ -11,9 +10,6 @@ use Rattle.uart.proofs.ticks.Goals as goal
 pub returns-then-part-ne-NONE : goal.returns-then-part-ne-NONE
 unfolding ticks_answer
 returns-then-part-ne-NONE c = rw (c.refused.ensures, c.part_of-part.ensures.lowest) (simp (c.part_of-part.ensures.none ∙ ne_eqb _ _ c.if-part-ne-NONE.true))
-
-pub overflow_sub-k : goal.overflow_sub-k
-overflow_sub-k c = omega (arith, c.if-n-s.true)
 
 pub returns-then-n-s : goal.returns-then-n-s
 unfolding ticks_answer
