@@ -106,6 +106,7 @@ pub fn go_on(p: Progress, bytes: &mut [u8]) -> Progress
     let mut words = [0u32; 512];
     let mut q = p;
     let mut at: usize = 0;
+    // Not `chunks_exact_mut`: once what it lends is given back, a proof knows the bytes' number alone.
     while PIECE <= bytes.len() - at {
         let end = at + PIECE;
         q = rewrite(q, &mut bytes[at..end], &mut records, &mut words);

@@ -40,7 +40,7 @@ fn stops(compare: bool, w: u32, expected: u32) -> bool
 fn put(w: u32, words: &mut [u32], place: usize)
     ensures { words.new ≡ set words.old place w }
 {
-    // Not `get_mut`: what it lends is not tied to the words, so the proof does not close.
+    // Not `get_mut`: once what it lends is given back, a proof knows the words' number alone.
     if place < words.len() {
         words[place] = w;
     }
@@ -48,7 +48,8 @@ fn put(w: u32, words: &mut [u32], place: usize)
 
 // Follows records from a well-formed state up to the first that is bad or, if the bytes seen are
 // compared, a read that differs, and writes each as the model expects it, as long as a word is left.
-// What a record does not touch of the state stays where it is.
+// What a record does not touch of the state stays where it is. `compare` is no closure: `follow_of`
+// and the clause `again` name both of its values.
 pub fn follow(s: State, records: &[u32], words: &mut [u32], compare: bool) -> Stop
     requires { well_formed s ≡ true }
     ensures words_after { record { count = result.place; state = result.state; words = words.new } ≡ follow_of compare s records.now words.old }
