@@ -1,5 +1,5 @@
 // The current state, and the commands that change it: each makes the next state, and puts its
-// answer into a lent buffer.
+// answer into a lent buffer from a place on: there is no heap for a String.
 #![tactic(auto)]
 
 ghost use Rattle.std.specs.Prelude.{◌≡◌, [], ◌∷◌, ◌+◌, ◌≤◌, length};
@@ -32,7 +32,8 @@ pub const LONGEST_ANSWER: usize = 11 * MOST_SAID;
 const UNWRITTEN: u32 = 0xAAAAAAAA;
 
 // The current state. Where loaded numbers do not fit the model's types, it is one that every call
-// refuses with the part of these numbers, and the numbers are kept apart.
+// refuses with the part of these numbers, and the numbers are kept apart. `fits` is a flag and no enum,
+// since every command takes the state alike in either case.
 #[derive(Clone, Copy)]
 pub struct Session {
     pub state: State,

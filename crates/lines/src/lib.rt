@@ -18,7 +18,8 @@ const NEWLINE: u8 = b'\n';
 const HELD: usize = command::LONGEST_LINE + 1;
 
 // Where the answering of a block stands: the current state, the place in the block after the last
-// line answered, the end of the answers, and whether it stopped for want of room.
+// line answered, the end of the answers, and whether it stopped for want of room: a flag, since the
+// other fields hold in either case.
 #[derive(Clone, Copy)]
 pub struct Progress {
     pub session: Session,
@@ -77,6 +78,7 @@ pub fn hold(block: &mut [u8], from: usize, to: usize) -> usize
     ensures upper_bound_2 { result ≤ length block.new }
 {
     let n = (to - from).min(HELD);
+    // A loop, since the library's slices have no `copy_within`.
     for i in 0..n {
         block[i] = block[from + i];
     }

@@ -1,4 +1,5 @@
-// The commands that change nothing: their answers, put into a lent buffer.
+// The commands that change nothing: their answers, put into a lent buffer from a place on, as there is
+// no heap for a String.
 #![tactic(auto)]
 
 ghost use Rattle.std.specs.Prelude.{◌≡◌, true, [], ◌+◌, ◌≤◌, length};

@@ -1,7 +1,10 @@
 // What a line makes of the current state, and writes.
 //
 // A line's command (`command`) is made on the current state, and its answer is put into a lent
-// buffer. Nothing here reads or writes a file.
+// buffer: there is no heap for a String. Nothing here reads or writes a file.
+//
+// The lent arrays and the buffer come one by one, and not as a struct, since `answer` reads the first
+// and writes the others.
 #![tactic(auto)]
 
 ghost use Rattle.std.specs.Prelude.{◌≡◌, ◌+◌, ◌≤◌, length, take};
