@@ -59,7 +59,8 @@ pub enum Command {
     Bad,
 }
 
-// The command of a word with no number after it.
+// The command of a word with no number after it. A chain of tests: a `match` on byte strings left a goal
+// open for each byte.
 fn bare(word: &[u8]) -> Command
     ensures value { result ≡ look_up table word.now [] }
     ensures result_value { beside result ≡ 0 }

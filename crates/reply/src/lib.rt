@@ -1,4 +1,5 @@
-// What the calls answer, as lines of numbers put into a lent buffer.
+// What the calls answer, as lines of numbers put into a lent buffer from a place on: there is no heap
+// for a String.
 #![tactic(auto)]
 
 ghost use Rattle.std.specs.Prelude.{◌≡◌, ◌+◌, ◌*◌, ◌≤◌, length};
