@@ -1,12 +1,11 @@
 -- A block answered part by part: each part makes a line at least, until none is left.
-use Prim.Native.Nat.{ℕ, ◌+◌, ◌≤◌}
-use mathlib.Core.Path.{◌≡◌, refl, ◌∙◌}
-use mathlib.Core.Bool.{Bool, true, false}
+use Prim.Native.Nat.{ℕ, ◌≤◌}
+use mathlib.Core.Path.{◌≡◌, ◌∙◌}
+use mathlib.Core.Bool.{Bool, false}
 use mathlib.Core.List.{List, []}
 use lib.ListN.{length, drop, drop_of_length-le}
 use native.Mathlib.Omega.{arith}
 use Rattle.text.specs.Text.{before}
-use Rattle.current.specs.Current.{longest_answer}
 use Rattle.session.specs.Session.{Standing}
 use Rattle.lines.specs.Lines.{reading, read_after, Answered}
 use Rattle.lines.proofs.Blocks.{read_no_line}
@@ -17,13 +16,7 @@ pub record Going (w₀ : Standing) (block : List ℕ) (w : Standing) (next turns
   pub leads : read_after w₀ [] block ≡ read_after w [] (drop next block)
   pub enough : turns ≤ next
 
-pub going_begins : (w : Standing) (block : List ℕ) → Going w block w 0 0
-going_begins w block = record { inside = omega arith; leads = refl; enough = omega arith }
-
 module _ {w₀ : Standing} {block : List ℕ} {w : Standing} {next turns : ℕ} (g : Going w₀ block w next turns) where
-  pub going_turns : {w' : Standing} {next' : ℕ} {more : Bool} {room : ℕ} → more ≡ true → longest_answer ≤ room → Answered w block next w' next' more room → Going w₀ block w' next' (turns + 1)
-  going_turns m r a = record { inside = a.inside; leads = g.leads ∙ a.leads; enough = omega (arith, g.enough, a.progress m r) }
-
   -- no line is left
   pub going_stops : {w' : Standing} {next' : ℕ} {more : Bool} {room : ℕ} → more ≡ false → Answered w block next w' next' more room → read_after w₀ [] block ≡ reading w' (drop next' block)
   going_stops {w'} {next'} f a = g.leads ∙ a.leads ∙ read_no_line w' (drop next' block) (a.all f)
