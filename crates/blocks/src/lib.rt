@@ -1,39 +1,33 @@
 // A block of input: its lines answered, and the answers written to standard output.
 #![tactic(auto)]
 
-ghost use Rattle.std.specs.Prelude.{◌≡◌, true, List, [], ◌++◌, ℕ, suc, ◌≤◌, length, take, drop};
-ghost use Rattle.command.specs.Command.{most_numbers, longest_line};
-ghost use Rattle.numbers.specs.Numbers.{state_count};
+ghost use Rattle.std.specs.Prelude.{◌≡◌, List, [], ◌++◌, ℕ, suc, ◌≤◌, length, take, drop, IfOk};
+ghost use Rattle.command.specs.Command.{longest_line};
 ghost use Rattle.current.specs.Current.{longest_answer};
 ghost use Rattle.session.specs.Session.{Standing, standing};
-ghost use Rattle.lines.specs.Lines.{reading, read_after, Answered, Led};
+ghost use Rattle.lines.specs.Lines.{reading, read_after, Led};
 ghost use Rattle.blocks.specs.Written.{AnswersOf, LastOf};
 
 use current::Session;
 use lines::Progress;
+use std::io;
 use std::io::Write;
 
-// What was answered of a block: the current state, the place after the last line answered, whether
-// there may be more, and whether the answers could be written.
+// What was answered of a block: the current state, and the place after the last line answered.
 #[derive(Clone, Copy)]
 pub struct Part {
     pub session: Session,
     pub next: usize,
-    pub more: bool,
-    pub written: bool,
 }
 
-// Between two reads: the current state, the bytes held at the start of the block, and whether to go
-// on.
+// Between two reads: the current state, and the bytes held at the start of the block.
 #[derive(Clone, Copy)]
 pub struct Held {
     pub session: Session,
     pub used: usize,
-    pub more: bool,
 }
 
-// Writes the answers to the next lines of a block, and answers whether they could be written; where
-// they could not, that is told.
+// Writes the answers to the next lines of a block.
 fn write_answers(
     rt: HostRuntime,
     p: Part,
@@ -41,82 +35,49 @@ fn write_answers(
     said: Progress,
     kept: &[u32],
     answers: &[u8],
-) -> bool
+) -> io::Result<()>
     requires { AnswersOf p.session block.now p.next (standing said.session kept.now) said.next answers.now }
 {
-    arguments::written(rt, b"calls", rt.stdout().write_all(answers))
+    rt.stdout().write_all(answers)
 }
 
-// Writes the answer to the last line, and answers whether it could be written; where it could not,
-// that is told.
-fn write_last(rt: HostRuntime, s: Session, line: &[u8], answer: &[u8]) -> bool
+// Writes the answer to the last line.
+fn write_last(rt: HostRuntime, s: Session, line: &[u8], answer: &[u8]) -> io::Result<()>
     requires { LastOf s line.now answer.now }
 {
-    arguments::written(rt, b"calls", rt.stdout().write_all(answer))
-}
-
-// Answers the next lines of a block, as many as the buffer takes, and writes the answers.
-fn answer_some(
-    rt: HostRuntime,
-    p: Part,
-    block: &[u8],
-    numbers: &mut [u32],
-    kept: &mut [u32],
-    out: &mut [u8],
-) -> Part
-    requires next_in_bounds { p.next ≤ length block.now }
-    requires numbers_len { length numbers.old ≡ most_numbers }
-    requires kept_len { length kept.old ≡ state_count }
-    ensures { Answered (standing p.session kept.old) block.now p.next (standing result.session kept.new) result.next result.more (length out.old) }
-{
-    let s = p.session;
-    let from = p.next;
-    let said = lines::answer_lines(s, block, from, numbers, kept, out);
-    let end = said.end;
-    let written = write_answers(rt, p, block, said, kept, &out[..end]);
-    let session = said.session;
-    Part {
-        session,
-        next: said.next,
-        more: said.full,
-        written,
-    }
+    rt.stdout().write_all(answer)
 }
 
 // Answers all lines of a block, unless an answer cannot be written, and answers where they end. A
-// block has no more lines than bytes.
+// block has no more lines than bytes, and each turn answers one at least.
 pub fn answer_block(
     rt: HostRuntime,
     block: &[u8],
     s: Session,
-    numbers: &mut [u32],
-    kept: &mut [u32],
+    numbers: &mut [u32; command::MOST_NUMBERS],
+    kept: &mut [u32; numbers::COUNT],
     out: &mut [u8],
-) -> Part
-    requires numbers_len { length numbers.old ≡ most_numbers }
-    requires kept_len { length kept.old ≡ state_count }
-    requires longest_answer_in_bounds { longest_answer ≤ length out.old }
-    ensures block_value { result.written ≡ true → read_after (standing s kept.old) [] block.now ≡ reading (standing result.session kept.new) (drop result.next block.now) }
-    ensures next_in_bounds { result.next ≤ length block.now }
+) -> io::Result<Part>
+    requires { longest_answer ≤ length out.old }
+    ensures block_value { IfOk result (λ p. read_after (standing s kept.old) [] block.now ≡ reading (standing p.session kept.new) (drop p.next block.now)) }
+    ensures next_in_bounds { IfOk result (λ p. p.next ≤ length block.now) }
 {
     let mut p = Part {
         session: s,
         next: 0,
-        more: true,
-        written: true,
     };
-    let mut turns = block.len();
-    while 0 < turns {
-        if !p.more {
-            return p;
+    for _ in 0..block.len() {
+        let said = lines::answer_lines(p.session, block, p.next, numbers, kept, out);
+        write_answers(rt, p, block, said, kept, &out[..said.end])?;
+        p = Part {
+            session: said.session,
+            next: said.next,
+        };
+        if !said.full {
+            return Ok(p);
         }
-        if !p.written {
-            return p;
-        }
-        p = answer_some(rt, p, block, numbers, kept, out);
-        turns -= 1;
     }
-    p
+    Ok(p)
 }
 
 // Answers the lines of a block's bytes up to `end`, which are what was held and what came after it,
@@ -126,40 +87,33 @@ pub fn answer_read(
     s: Session,
     block: &mut [u8],
     end: usize,
-    numbers: &mut [u32],
-    kept: &mut [u32],
+    numbers: &mut [u32; command::MOST_NUMBERS],
+    kept: &mut [u32; numbers::COUNT],
     out: &mut [u8],
-) -> Held
+) -> io::Result<Held>
     requires end_in_bounds { end ≤ length block.old }
-    requires numbers_len { length numbers.old ≡ most_numbers }
-    requires kept_len { length kept.old ≡ state_count }
     requires longest_answer_in_bounds { longest_answer ≤ length out.old }
-    ensures led { (w₀ : Standing) (input line came : List ℕ) → take end block.old ≡ line ++ came → Led w₀ input (standing s kept.old) line → result.more ≡ true → Led w₀ (input ++ came) (standing result.session kept.new) (take result.used block.new) }
-    ensures used_bound { result.used ≤ suc longest_line }
+    ensures led { (w₀ : Standing) (input line came : List ℕ) → take end block.old ≡ line ++ came → Led w₀ input (standing s kept.old) line → IfOk result (λ h. Led w₀ (input ++ came) (standing h.session kept.new) (take h.used block.new)) }
+    ensures used_bound { IfOk result (λ h. h.used ≤ suc longest_line) }
 {
-    let p = answer_block(rt, &block[..end], s, numbers, kept, out);
-    let next = p.next;
-    let used = lines::hold(block, next, end);
-    let session = p.session;
-    Held {
-        session,
+    let p = answer_block(rt, &block[..end], s, numbers, kept, out)?;
+    let used = lines::hold(block, p.next, end);
+    Ok(Held {
+        session: p.session,
         used,
-        more: p.written,
-    }
+    })
 }
 
-// Answers the last line, if it lacks its newline, and answers whether that could be written.
+// Answers the last line, if it lacks its newline.
 pub fn finish(
     rt: HostRuntime,
     s: Session,
     line: &[u8],
-    numbers: &mut [u32],
-    kept: &mut [u32],
+    numbers: &mut [u32; command::MOST_NUMBERS],
+    kept: &mut [u32; numbers::COUNT],
     out: &mut [u8],
-) -> bool
-    requires numbers_len { length numbers.old ≡ most_numbers }
-    requires kept_len { length kept.old ≡ state_count }
-    requires longest_answer_in_bounds { longest_answer ≤ length out.old }
+) -> io::Result<()>
+    requires { longest_answer ≤ length out.old }
 {
     let end = lines::answer_last(s, line, numbers, kept, out);
     write_last(rt, s, line, &out[..end])
