@@ -6,7 +6,6 @@ use lib.ListN.{length, take, drop, drop_of_length-le}
 use lib.Seq.{take_all}
 use native.Mathlib.Omega.{arith}
 use borrow.Author.Tests.{ne_eqb}
-use Rattle.recorder.specs.File.{header_of}
 use Rattle.recorder.proofs.Laws.{left}
 use Rattle.expected_file.specs.declared.Progress.{Progress}
 use Rattle.expected_file.specs.File.{Made, after, expected_of, begun_of, rest_of}
@@ -55,7 +54,7 @@ module _ {p₀ p : Progress} (led : Led p₀ p) where
 
 pub refused-number : (p : Progress) (header : List ℕ) → p ≡ begun_of header → (p.number ≡ 0 → ⊥) → NumberOf p.number
 refused-number p header e n =
-    let number : p.number ≡ (header_of header).number = ap (λ (q : Progress). q.number) e in
+    let number : p.number ≡ (begun_of header).number = ap (λ (q : Progress). q.number) e in
     record {
       bytes = header;
       answers =

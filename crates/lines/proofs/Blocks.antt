@@ -3,10 +3,9 @@ use Prim.Native.Nat.{ℕ, suc, ◌+◌, ◌-◌, ◌≤◌, ◌<◌, min}
 use mathlib.Core.Path.{refl, ◌≡◌, sym, ap, ◌∙◌}
 use mathlib.Core.Bool.{Bool, true, false, cond, false≢true}
 use mathlib.Core.List.{List, [], ◌∷◌, ◌++◌, append_assoc, append-nil}
-use lib.ListN.{length, get_or, take, drop, set, length-set, length-take, length-drop}
-use lib.Seq.{take-suc, take-suc-set, take_all, take-take, drop-drop, drop-set-lt, get_or-drop, length-take-le}
+use lib.ListN.{length, take, drop, length-take, length-drop}
+use lib.Seq.{take_all, take-take, drop-drop, length-take-le}
 use lib.Dec.{eqb}
-use native.Mathlib.Numerals.{add-one}
 use native.Mathlib.Decide.{dec_le}
 use native.Mathlib.Omega.{arith}
 use Rattle.text.specs.Text.{before, Appended}
@@ -123,31 +122,6 @@ module _ {w₀ : Standing} {block : List ℕ} {from long : ℕ} {w : Standing} {
         progress = λ _ r.
             let moved : (next ≡ from → ⊥) = λ z. absurd (omega (arith, a.none z, a.same)) in
             omega (arith, a.started, moved);
-      }
-
--- Moving: the first i bytes from `from` on stand at the start, the others as they were.
-pub record Moving (from : ℕ) (was block : List ℕ) (i : ℕ) : Type 0 where
-  pub long : length block ≡ length was
-  pub front : take i block ≡ take i (drop from was)
-  pub rest : drop i block ≡ drop i was
-
-module _ {from : ℕ} {was block : List ℕ} {i : ℕ} where
-  pub move_turns : Moving from was block i → from + i < length was → Moving from was (set block i (get_or block (from + i) 0)) (i + 1)
-  move_turns m h =
-      let b : i < length block = omega (arith, m.long) in
-      let v : ℕ = get_or block (from + i) 0 in
-      let q : from + i ≡ i + from = omega arith in
-      let e : v ≡ get_or (drop from was) i 0 =
-      ap (λ (j : ℕ). get_or block j 0) q ∙ sym (get_or-drop i block from 0) ∙ ap (λ (s : List ℕ). get_or s from 0) m.rest ∙ get_or-drop i was from 0
-      ∙ ap (λ (j : ℕ). get_or was j 0) (sym q) ∙ sym (get_or-drop from was i 0) in
-      let k : i < length (drop from was) = simp length-drop (omega arith) in
-      let t : take (i + 1) (set block i v) ≡ take i block ++ (v ∷ []) = rw add-one (take-suc-set block i v b) in
-      let u : take (i + 1) (drop from was) ≡ take i (drop from was) ++ (v ∷ []) = rw (add-one, e) (take-suc (drop from was) i 0 k) in
-      let z : i < i + 1 = omega arith in
-      record {
-        long = length-set block i v ∙ m.long;
-        front = t ∙ ap (λ (s : List ℕ). s ++ (v ∷ [])) m.front ∙ sym u;
-        rest = drop-set-lt (i + 1) block i v z ∙ sym (drop-drop 1 i block) ∙ ap (drop 1) m.rest ∙ drop-drop 1 i was;
       }
 
 -- what is held of the bytes from `from` up to `to`

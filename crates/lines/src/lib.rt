@@ -78,10 +78,7 @@ pub fn hold(block: &mut [u8], from: usize, to: usize) -> usize
     ensures upper_bound_2 { result ≤ length block.new }
 {
     let n = (to - from).min(HELD);
-    // A loop, since the library's slices have no `copy_within`.
-    for i in 0..n {
-        block[i] = block[from + i];
-    }
+    block.copy_within(from..from + n, 0);
     n
 }
 
