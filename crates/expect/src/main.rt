@@ -2,8 +2,6 @@
 // chip: its records, each read with the model's byte in it.
 #![tactic(auto)]
 
-ghost use Rattle.std.specs.Prelude.{◌≤◌, length};
-
 use std::io::Write;
 
 // The program that says all this.
@@ -14,9 +12,7 @@ const HELP: &[u8] =
     b"usage: expect [--help] [FILE]\n\nWrites the capture that is expected of an undisturbed chip for the capture FILE, standard\ninput where there is none or for -, to standard output: the same records, but each read\nwith the byte that the model answers. A capture that is refused ends before the record\nthat is, and standard error has the number in a line of its own:\n\n6    no capture: nothing is written\n7    unknown version: nothing is written\n8    bad record, or cut off\n\nThe exit status is always 0. Where reading or writing fails, standard error says so.\n";
 
 // Writes what is expected for standard input.
-fn expect_input(rt: HostRuntime, name: &[u8])
-    requires { length name.now ≤ 4096 }
-{
+fn expect_input(rt: HostRuntime, name: &[u8]) {
     arguments::hint(
         rt,
         b"expect: a capture is awaited on standard input (expect FILE takes a file)\n",
@@ -25,9 +21,7 @@ fn expect_input(rt: HostRuntime, name: &[u8])
 }
 
 // Writes what is expected for the capture of this name.
-fn expect_named(rt: HostRuntime, name: &[u8])
-    requires { length name.now ≤ 4096 }
-{
+fn expect_named(rt: HostRuntime, name: &[u8]) {
     if name == b"-".as_slice() {
         expect_input(rt, name);
         return;

@@ -133,9 +133,7 @@ fn tell_number(rt: HostRuntime, number: u8)
 
 // Writes what is expected for the capture that a reader gives, and tells the number of a
 // refusal on standard error. Where reading or writing fails, standard error says why.
-pub fn expect<R: Read>(rt: HostRuntime, input: &mut R, name: &[u8])
-    requires { length name.now ≤ 4096 }
-{
+pub fn expect<R: Read>(rt: HostRuntime, input: &mut R, name: &[u8]) {
     let mut watch = Watch::start(rt);
     let expected = expect_capture(rt, input, &mut watch);
     watch.stop(rt);
