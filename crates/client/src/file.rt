@@ -30,7 +30,7 @@ pub struct Progress {
     pub state: State,
 }
 
-// What stopped a replay, as a number.
+// What stopped a replay, as the number that the C struct has.
 fn stopped_by(o: Outcome) -> u8
     ensures { result ≡ stopped_by o }
 {
@@ -41,56 +41,58 @@ fn stopped_by(o: Outcome) -> u8
     }
 }
 
-// The outcome of what stopped a replay, and its values.
+// The outcome of that number, where every value of it is one, and the values.
 fn outcome_of(stopped: u8, v: Values) -> Outcome
     ensures { result ≡ outcome_of stopped v }
 {
     let place = v.place;
-    if stopped == 0 {
-        return Outcome::Agreed;
-    }
-    if stopped == 1 {
-        return Outcome::Differs {
+    match stopped {
+        0 => Outcome::Agreed,
+        1 => Outcome::Differs {
             place,
             seen: v.seen,
             model: v.model,
-        };
-    }
-    Outcome::Refused {
-        number: v.number,
-        part: v.part,
-        place,
-    }
-}
-
-// The progress as `capture_file` has it, and back.
-fn carried(p: Progress) -> capture_file::Progress
-    ensures { result ≡ carried_of p }
-{
-    let state = p.state;
-    let v = p.values;
-    capture_file::Progress {
-        version: p.version,
-        place: p.done,
-        replayed: Replayed {
-            state,
-            outcome: outcome_of(p.stopped, v),
+        },
+        _ => Outcome::Refused {
+            number: v.number,
+            part: v.part,
+            place,
         },
     }
 }
 
-fn handed(p: capture_file::Progress) -> Progress
-    ensures { result ≡ handed_of p }
-{
-    let replayed = p.replayed;
-    let o = replayed.outcome;
-    let state = replayed.state;
-    Progress {
-        version: p.version,
-        stopped: stopped_by(o),
-        done: p.place,
-        values: capture::values_of(o),
-        state,
+// The progress as `capture_file` has it, and back.
+impl From<Progress> for capture_file::Progress {
+    ghost from_gives = { λ p q. q ≡ carried_of p };
+
+    fn from(p: Progress) -> capture_file::Progress {
+        let state = p.state;
+        let v = p.values;
+        capture_file::Progress {
+            version: p.version,
+            place: p.done,
+            replayed: Replayed {
+                state,
+                outcome: outcome_of(p.stopped, v),
+            },
+        }
+    }
+}
+
+impl From<capture_file::Progress> for Progress {
+    ghost from_gives = { λ p q. q ≡ handed_of p };
+
+    fn from(p: capture_file::Progress) -> Progress {
+        let replayed = p.replayed;
+        let o = replayed.outcome;
+        let state = replayed.state;
+        Progress {
+            version: p.version,
+            stopped: stopped_by(o),
+            done: p.place,
+            values: capture::values_of(o),
+            state,
+        }
     }
 }
 
@@ -146,8 +148,7 @@ pub fn begin(first: &[u8]) -> Progress
     ensures done_value { result.done ≡ 0 }
     ensures told_so_far { ToldSoFar result }
 {
-    let p = capture_file::begin(first);
-    handed(p)
+    Progress::from(capture_file::begin(first))
 }
 
 // Replays the whole records of the bytes that come next. One to three bytes that are left come again
@@ -166,9 +167,9 @@ pub fn more(p: Progress, bytes: &[u8]) -> Progress
     if MOST - done < records {
         return refused(p);
     }
-    let begun = carried(p);
+    let begun = capture_file::Progress::from(p);
     let so_far = replay_blocks(begun, bytes);
-    handed(so_far)
+    Progress::from(so_far)
 }
 
 // The answer for a file that ends with these bytes.
@@ -185,7 +186,7 @@ pub fn end(p: Progress, bytes: &[u8]) -> Replay
     if MOST - done < records {
         return too_many(p);
     }
-    let begun = carried(p);
+    let begun = capture_file::Progress::from(p);
     let q = replay_blocks(begun, bytes);
     let at = 4 * records;
     let mut room = [0u32; 1];

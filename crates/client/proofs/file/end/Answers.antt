@@ -20,12 +20,12 @@ returns-then-done-records c = record { value = λ h. absurd (omega (arith, h, c.
 
 pub replay_blocks-q-requires : goal.replay_blocks-q-requires
 replay_blocks-q-requires c =
-    let place = ap (λ (x : parts.Progress). x.place) c.carried-begun.ensures in
+    let place = ap (λ (x : parts.Progress). x.place) c.from-begun.ensures in
     omega (arith, place, c.if-done-gt-MOST.false)
 
 pub finish-r-requires : goal.finish-r-requires
 finish-r-requires c =
-    let place = ap (λ (x : parts.Progress). x.place) c.carried-begun.ensures in
+    let place = ap (λ (x : parts.Progress). x.place) c.from-begun.ensures in
     let most = c.if-done-records.false in
     record { bytes_len_bound = search rules; records_bound = omega (arith, place, most, c.if-done-gt-MOST.false, c.replay_blocks-q.ensures.place_bound) }
 
@@ -35,7 +35,7 @@ returns c =
     let n = length bytes - 4 * (length bytes / 4) in
     let whole : length bytes ≤ 4 * (length bytes / 4) + n = omega arith in
     let blocks = c.replay_blocks-q in
-    let begun = c.carried-begun in
+    let begun = c.from-begun in
     let all : c.answered.result ≡ rest_answer c.args.p bytes =
     c.answered.ensures ∙ ap replay_answer (c.finish-r.ensures ∙ rest-ends begun.result blocks.result bytes n whole blocks.ensures.by_index ∙ ap (λ (x : parts.Progress). rest_of x bytes) begun.ensures)
     in record { value = λ h. all; value_2 = λ h. absurd (omega (arith, h, c.if-done-records.false, c.if-done-gt-MOST.false)); agreed = λ t. end_told c.args.p c.answered.result bytes all t }

@@ -19,20 +19,20 @@ returns-then-done-records c =
 
 pub replay_blocks-so_far-requires : goal.replay_blocks-so_far-requires
 replay_blocks-so_far-requires c =
-    let place = ap (λ (x : parts.Progress). x.place) c.carried-begun.ensures in
+    let place = ap (λ (x : parts.Progress). x.place) c.from-begun.ensures in
     omega (arith, place, c.if-done-gt-MOST.false)
 
 pub returns : goal.returns
 returns c =
-    let place = ap (λ (x : parts.Progress). x.place) c.carried-begun.ensures in
-    let done = ap (λ (x : Progress). x.done) c.handed.ensures in
+    let place = ap (λ (x : parts.Progress). x.place) c.from-begun.ensures in
+    let done = ap (λ (x : Progress). x.done) c.from.ensures in
     let blocks = c.replay_blocks-so_far.ensures in
     let p = c.args.p in
-    let begun = c.carried-begun in
+    let begun = c.from-begun in
     let q = c.replay_blocks-so_far.result in
     record {
-      rest_value = λ h rest. hands_on p c.handed.result begun.result q _ _ c.handed.ensures begun.ensures (blocks.by_index rest);
+      rest_value = λ h rest. hands_on p c.from.result begun.result q _ _ c.from.ensures begun.ensures (blocks.by_index rest);
       value = λ h. absurd (omega (arith, h, c.if-done-records.false, c.if-done-gt-MOST.false));
       done_bound = omega (arith, done, place, blocks.place_bound);
-      told_so_far = λ t. more_told p c.handed.result begun.result q _ _ c.handed.ensures begun.ensures (blocks.by_index []) t;
+      told_so_far = λ t. more_told p c.from.result begun.result q _ _ c.from.ensures begun.ensures (blocks.by_index []) t;
     }
