@@ -7,7 +7,6 @@ use Prim.Native.Nat.{◌+◌, ◌-◌, ◌*◌, ◌/◌, ◌≤◌}
 use mathlib.Core.Path.{◌≡◌, sym, ap, ◌∙◌}
 use lib.ListN.{length}
 use native.Mathlib.Omega.{arith}
-use borrow.Author.Rules.{rules}
 use Rattle.capture_file.specs.declared.Progress as parts
 use Rattle.client.specs.Replay.{replay_answer}
 use borrow.Author.Tests.{ltb-true, ltb-false}
@@ -20,16 +19,6 @@ returns-then-beyond c =
     c.answered.ensures ∙ ap (λ (x : parts.Progress). replay_answer x.replayed) c.refused.ensures
     in
     record { value = λ h. absurd (omega (arith, h, ltb-true _ _ (sym c.beyond.ensures ∙ c.if-beyond.true))); value_2 = λ h. e; agreed = λ t. too_many_told c.args.p.state c.answered.result _ e }
-
-pub replay_blocks-q-requires : goal.replay_blocks-q-requires
-replay_blocks-q-requires c =
-    let place = ap (λ (x : parts.Progress). x.place) c.from-begun.ensures in
-    omega (arith, place, ltb-false _ _ (sym c.beyond.ensures ∙ c.if-beyond.false))
-
-pub finish-r-requires : goal.finish-r-requires
-finish-r-requires c =
-    let place = ap (λ (x : parts.Progress). x.place) c.from-begun.ensures in
-    record { bytes_len_bound = search rules; records_bound = omega (arith, place, ltb-false _ _ (sym c.beyond.ensures ∙ c.if-beyond.false), c.replay_blocks-q.ensures.place_bound) }
 
 pub returns : goal.returns
 returns c =

@@ -15,11 +15,6 @@ returns-then-beyond c =
     let done = ap (λ (x : Progress). x.done) e in
     record { rest_value = λ h. absurd (omega (arith, h, ltb-true _ _ (sym c.beyond.ensures ∙ c.if-beyond.true))); value = λ h. e; done_bound = omega (arith, done); told_so_far = λ t. beyond_told c.args.p c.from.result e }
 
-pub replay_blocks-so_far-requires : goal.replay_blocks-so_far-requires
-replay_blocks-so_far-requires c =
-    let place = ap (λ (x : parts.Progress). x.place) c.from-begun.ensures in
-    omega (arith, place, ltb-false _ _ (sym c.beyond.ensures ∙ c.if-beyond.false))
-
 pub returns : goal.returns
 returns c =
     let place = ap (λ (x : parts.Progress). x.place) c.from-begun.ensures in
