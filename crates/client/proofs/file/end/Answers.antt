@@ -1,5 +1,5 @@
 -- All whole records, and then what is left; a file of too many records is refused.
-use Rattle.client.proofs.Parts.{end_told, too_many_told}
+use Rattle.client.proofs.Parts.{end_told}
 use Rattle.capture_file.specs.File.{rest_of}
 use Rattle.capture_file.proofs.Parts.{rest-ends}
 use Rattle.client.specs.File.{rest_answer}
@@ -9,16 +9,8 @@ use lib.ListN.{length}
 use native.Mathlib.Omega.{arith}
 use Rattle.capture_file.specs.declared.Progress as parts
 use Rattle.client.specs.Replay.{replay_answer}
-use borrow.Author.Tests.{ltb-true, ltb-false}
-use Rattle.capture.specs.Replay.{refused}
+use borrow.Author.Tests.{ltb-false}
 use Rattle.client.proofs.file.end.Goals as goal
-
-pub returns-then-beyond : goal.returns-then-beyond
-returns-then-beyond c =
-    let e : c.answered.result ≡ replay_answer (refused 1 c.args.p.state 0) =
-    c.answered.ensures ∙ ap (λ (x : parts.Progress). replay_answer x.replayed) c.refused.ensures
-    in
-    record { value = λ h. absurd (omega (arith, h, ltb-true _ _ (sym c.beyond.ensures ∙ c.if-beyond.true))); value_2 = λ h. e; agreed = λ t. too_many_told c.args.p.state c.answered.result _ e }
 
 pub returns : goal.returns
 returns c =

@@ -1,19 +1,12 @@
 -- A block after the other; a file of too many records is refused.
-use Rattle.client.proofs.Parts.{hands_on, beyond_told, more_told}
-use mathlib.Core.Path.{◌≡◌, sym, ap, ◌∙◌}
-use borrow.Author.Tests.{ltb-true, ltb-false}
+use Rattle.client.proofs.Parts.{hands_on, more_told}
+use mathlib.Core.Path.{sym, ap, ◌∙◌}
+use borrow.Author.Tests.{ltb-false}
 use mathlib.Core.List.{[]}
 use native.Mathlib.Omega.{arith}
 use Rattle.capture_file.specs.declared.Progress as parts
 use Rattle.client.specs.declared.file.Progress.{Progress}
-use Rattle.client.specs.File.{beyond_of, handed_of}
 use Rattle.client.proofs.file.more.Goals as goal
-
-pub returns-then-beyond : goal.returns-then-beyond
-returns-then-beyond c =
-    let e : c.from.result ≡ beyond_of c.args.p = c.from.ensures ∙ ap handed_of c.refused.ensures in
-    let done = ap (λ (x : Progress). x.done) e in
-    record { rest_value = λ h. absurd (omega (arith, h, ltb-true _ _ (sym c.beyond.ensures ∙ c.if-beyond.true))); value = λ h. e; done_bound = omega (arith, done); told_so_far = λ t. beyond_told c.args.p c.from.result e }
 
 pub returns : goal.returns
 returns c =
