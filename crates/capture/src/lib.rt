@@ -89,16 +89,16 @@ pub fn refused(number: u8, s: State, place: usize) -> Replayed
 
 // The answer at the place where a replay stops: behind the last record, at a bad one, or at a read
 // that the model answers otherwise.
+#[tactic(auto, unfolding(crate::specs::Replay::stopped_at))]
 fn stopped(s: State, records: &[u32], place: usize, model: u8) -> Replayed
     ensures { result ≡ stopped_at s records.now place model }
 {
-    if records.len() <= place {
+    let Some(&w) = records.get(place) else {
         return Replayed {
             state: s,
             outcome: Outcome::Agreed,
         };
-    }
-    let w = records[place];
+    };
     if !record::good(w) {
         return refused(answer::BAD_RECORD, s, place);
     }
@@ -124,6 +124,7 @@ fn replay_records(s: State, records: &[u32]) -> Replayed
 }
 
 // Replays records of a version from a state.
+#[tactic(auto, unfolding(crate::specs::Replay::replay_of))]
 pub fn replay(s: State, version: u32, records: &[u32]) -> Replayed
     ensures value { result ≡ replay_of version s records.now }
     ensures agrees { result.outcome ≡ Outcome.Agreed → Agrees s records.now result.state }

@@ -1,6 +1,6 @@
 // Replay of a capture's file, whose bytes come in parts. What a client carries from part to part goes
 // by value, and every bit pattern of it is a value.
-ghost use Rattle.std.specs.Prelude.{◌≡◌, List, [], ◌++◌, ℕ, ◌+◌, ◌*◌, ◌/◌, ◌≤◌, ◌<◌, ◌^◌, length, drop};
+ghost use Rattle.std.specs.Prelude.{◌≡◌, ltb, List, [], ◌++◌, ℕ, ◌+◌, ◌*◌, ◌/◌, ◌≤◌, ◌<◌, ◌^◌, length, drop};
 ghost use Rattle.capture.specs.Replay.{refused as «refused-at»};
 ghost use Rattle.capture_file.specs.File.{capture_of, rest_of};
 ghost use Rattle.client.specs.Replay.{replay_answer};
@@ -10,7 +10,6 @@ use crate::{Replay, answered};
 use capture::{Outcome, Replayed, Values};
 use device::State;
 use sheet::answer;
-use sheet::part::NONE;
 
 // The most records of a file, 2^62; no file has as many.
 const MOST: usize = 4611686018427387904;
@@ -30,7 +29,7 @@ pub struct Progress {
     pub state: State,
 }
 
-// What stopped a replay, as a number.
+// What stopped a replay, as the number that the C struct has.
 fn stopped_by(o: Outcome) -> u8
     ensures { result ≡ stopped_by o }
 {
@@ -41,56 +40,58 @@ fn stopped_by(o: Outcome) -> u8
     }
 }
 
-// The outcome of what stopped a replay, and its values.
+// The outcome of that number, where every value of it is one, and the values.
 fn outcome_of(stopped: u8, v: Values) -> Outcome
     ensures { result ≡ outcome_of stopped v }
 {
     let place = v.place;
-    if stopped == 0 {
-        return Outcome::Agreed;
-    }
-    if stopped == 1 {
-        return Outcome::Differs {
+    match stopped {
+        0 => Outcome::Agreed,
+        1 => Outcome::Differs {
             place,
             seen: v.seen,
             model: v.model,
-        };
-    }
-    Outcome::Refused {
-        number: v.number,
-        part: v.part,
-        place,
-    }
-}
-
-// The progress as `capture_file` has it, and back.
-fn carried(p: Progress) -> capture_file::Progress
-    ensures { result ≡ carried_of p }
-{
-    let state = p.state;
-    let v = p.values;
-    capture_file::Progress {
-        version: p.version,
-        place: p.done,
-        replayed: Replayed {
-            state,
-            outcome: outcome_of(p.stopped, v),
+        },
+        _ => Outcome::Refused {
+            number: v.number,
+            part: v.part,
+            place,
         },
     }
 }
 
-fn handed(p: capture_file::Progress) -> Progress
-    ensures { result ≡ handed_of p }
-{
-    let replayed = p.replayed;
-    let o = replayed.outcome;
-    let state = replayed.state;
-    Progress {
-        version: p.version,
-        stopped: stopped_by(o),
-        done: p.place,
-        values: capture::values_of(o),
-        state,
+// The progress as `capture_file` has it, and back.
+impl From<Progress> for capture_file::Progress {
+    ghost from_gives = { λ p q. q ≡ carried_of p };
+
+    fn from(p: Progress) -> capture_file::Progress {
+        let state = p.state;
+        let v = p.values;
+        capture_file::Progress {
+            version: p.version,
+            place: p.done,
+            replayed: Replayed {
+                state,
+                outcome: outcome_of(p.stopped, v),
+            },
+        }
+    }
+}
+
+impl From<capture_file::Progress> for Progress {
+    ghost from_gives = { λ p q. q ≡ handed_of p };
+
+    fn from(p: capture_file::Progress) -> Progress {
+        let replayed = p.replayed;
+        let o = replayed.outcome;
+        let state = replayed.state;
+        Progress {
+            version: p.version,
+            stopped: stopped_by(o),
+            done: p.place,
+            values: capture::values_of(o),
+            state,
+        }
     }
 }
 
@@ -109,33 +110,23 @@ fn replay_blocks(p: capture_file::Progress, bytes: &[u8]) -> capture_file::Progr
     capture_file::go_on(q, rest, &mut records)
 }
 
-// A file that would have more than the most records is refused, and the state is as it was.
-fn refused(p: Progress) -> Progress
-    ensures { result ≡ beyond_of p }
+// Whether a file would have more than the most records with the whole ones of these bytes.
+fn beyond(done: usize, bytes: &[u8]) -> bool
+    ensures { result ≡ ltb (2 ^ 62) (done + length bytes.now / 4) }
 {
-    let state = p.state;
-    Progress {
-        version: p.version,
-        stopped: 2,
-        done: p.done,
-        values: Values {
-            number: answer::MALFORMED,
-            part: NONE,
-            seen: 0,
-            model: 0,
-            place: 0,
-        },
-        state,
-    }
+    MOST < done.saturating_add(bytes.len() / 4)
 }
 
-fn too_many(p: Progress) -> Replay
-    ensures { result ≡ replay_answer («refused-at» 1 p.state 0) }
+// Such a file is refused, and the state is as it was.
+fn refused(p: Progress) -> capture_file::Progress
+    ensures { result ≡ record { version = p.version; place = p.done; replayed = «refused-at» 1 p.state 0 } }
 {
-    let q = refused(p);
-    let values = q.values;
-    let state = q.state;
-    Replay { values, state }
+    let state = p.state;
+    capture_file::Progress {
+        version: p.version,
+        place: p.done,
+        replayed: capture::refused(answer::MALFORMED, state, 0),
+    }
 }
 
 // The file that begins with these bytes: their first eight are its header, and what follows comes
@@ -146,8 +137,7 @@ pub fn begin(first: &[u8]) -> Progress
     ensures done_value { result.done ≡ 0 }
     ensures told_so_far { ToldSoFar result }
 {
-    let p = capture_file::begin(first);
-    handed(p)
+    Progress::from(capture_file::begin(first))
 }
 
 // Replays the whole records of the bytes that come next. One to three bytes that are left come again
@@ -158,17 +148,12 @@ pub fn more(p: Progress, bytes: &[u8]) -> Progress
     ensures done_bound { result.done ≤ p.done + length bytes.now / 4 }
     ensures told_so_far { ToldSoFar p → ToldSoFar result }
 {
-    let done = p.done;
-    let records = bytes.len() / 4;
-    if MOST < done {
-        return refused(p);
+    if beyond(p.done, bytes) {
+        return Progress::from(refused(p));
     }
-    if MOST - done < records {
-        return refused(p);
-    }
-    let begun = carried(p);
+    let begun = capture_file::Progress::from(p);
     let so_far = replay_blocks(begun, bytes);
-    handed(so_far)
+    Progress::from(so_far)
 }
 
 // The answer for a file that ends with these bytes.
@@ -177,17 +162,12 @@ pub fn end(p: Progress, bytes: &[u8]) -> Replay
     ensures value_2 { 2 ^ 62 < p.done + length bytes.now / 4 → result ≡ replay_answer («refused-at» 1 p.state 0) }
     ensures agreed { ToldSoFar p → result.values.number ≡ 0 → result.values.seen ≡ result.values.model → (rest_of (carried_of p) bytes.now).outcome ≡ Outcome.Agreed }
 {
-    let records = bytes.len() / 4;
-    let done = p.done;
-    if MOST < done {
-        return too_many(p);
+    if beyond(p.done, bytes) {
+        return answered(refused(p).replayed);
     }
-    if MOST - done < records {
-        return too_many(p);
-    }
-    let begun = carried(p);
+    let begun = capture_file::Progress::from(p);
     let q = replay_blocks(begun, bytes);
-    let at = 4 * records;
+    let at = 4 * (bytes.len() / 4);
     let mut room = [0u32; 1];
     let r = capture_file::finish(q, &bytes[at..], &mut room);
     answered(r)

@@ -1,7 +1,6 @@
 -- The capture written by the records that are followed.
 use Prim.Native.Nat.{ℕ, zero, suc, ◌≤◌, ◌<◌, min}
 use mathlib.Core.Path.{◌≡◌, refl, sym, ap, ◌∙◌}
-use mathlib.Core.Logic.{◌⊎◌, ⊎_elim}
 use mathlib.Core.Bool.{Bool, true, false}
 use mathlib.Core.List.{List, [], ◌∷◌}
 use lib.ListN.{length, take, drop, length-take}
@@ -17,7 +16,7 @@ use Rattle.sequence.proofs.Ways.{follow_most}
 use Rattle.capture.specs.Replay.{agreed, replay_from, replay_of}
 use Rattle.capture.proofs.Laws.{replay_agrees}
 use Rattle.expected.specs.declared.Expected.{Expected}
-use Rattle.expected.specs.Expected.{Written, stopping, writing, expect_from, expect_of, left_number}
+use Rattle.expected.specs.Expected.{Written, writing, expect_from, expect_of, left_number}
 
 -- what is written, by the records followed and those that are left
 abbrev pub written_by : Followed → List ℕ → Written
@@ -84,20 +83,7 @@ Promised version s ws xs r ys =
       count_value : r.count ≡ length (take r.count ys);
     }
 
--- of a refusal before the first record
-pub refusal_keeps : (version : ℕ) (s : State) (ws xs : List ℕ) (number part : ℕ) (r : Expected) → r ≡ record { number = number; part = part; count = 0; state = s } →
-    expect_of version s ws xs ≡ stopping number part s xs → (number ≡ 1) ⊎ (number ≡ 7) → Promised version s ws xs r xs
-refusal_keeps version s ws xs number part r e d k =
-    rw e
-    record {
-      outcome = sym d;
-      replayed = λ p q. absurd (⊎_elim p q k);
-      well = λ h. h;
-      count_in_bounds = omega arith;
-      count_value = refl;
-    }
-
--- of the records
+-- where the records are written
 pub records_keep : (version : ℕ) (s : State) (ws xs : List ℕ) (r : Expected) (ys : List ℕ) → well_formed s ≡ true → known version ≡ true → record { answer = r; words = ys } ≡ expect_from s ws xs →
     replay_from 0 s (take r.count ys) ≡ agreed r.state → well_formed r.state ≡ true → r.count ≤ length ys → Promised version s ws xs r ys
 unfolding expect_of replay_of

@@ -31,13 +31,11 @@ pub struct Expected {
 fn number_at(records: &[u32], place: usize) -> u8
     ensures { result ≡ left_number (drop place records.now) }
 {
-    if records.len() <= place {
-        return answer::DONE;
+    match records.get(place) {
+        None => answer::DONE,
+        Some(w) if record::good(*w) => answer::NO_ROOM,
+        Some(_) => answer::BAD_RECORD,
     }
-    if record::good(records[place]) {
-        return answer::NO_ROOM;
-    }
-    answer::BAD_RECORD
 }
 
 // Writes the records that are expected from a well-formed state.
@@ -73,6 +71,7 @@ fn refused(number: u8, part: u8, s: State) -> Expected
 }
 
 // Writes the capture that is expected for records of a version from a state into the second run.
+#[tactic(auto, unfolding(crate::specs::Expected::expect_of))]
 pub fn expect(s: State, version: u32, records: &[u32], words: &mut [u32]) -> Expected
     ensures outcome { record { answer = result; words = words.new } ≡ expect_of version s records.now words.old }
     ensures replayed { (result.number ≡ 1 → ⊥) → (result.number ≡ 7 → ⊥) → replay_of version s (take result.count words.new) ≡ agreed result.state }

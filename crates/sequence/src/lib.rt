@@ -21,14 +21,6 @@ pub struct Stop {
     pub expected: u32,
 }
 
-// Whether a good record stands at a place.
-#[tactic(auto, unfolding(crate::specs::Sequence::good_at))]
-fn good_at(records: &[u32], place: usize) -> bool
-    ensures { result ≡ good_at records.now place }
-{
-    place < records.len() && record::good(records[place])
-}
-
 // Whether a record, of which the model expects `expected`, is not followed.
 fn stops(compare: bool, w: u32, expected: u32) -> bool
     ensures { result ≡ (compare && not (eqb expected w)) }
@@ -59,15 +51,16 @@ pub fn follow(s: State, records: &[u32], words: &mut [u32], compare: bool) -> St
 {
     let mut t = s;
     let mut expected: u32 = 0;
-    let mut i: usize = 0;
-    let place = loop {
-        if !good_at(records, i) {
-            break i;
+    let mut place = records.len();
+    for (i, &w) in records.iter().enumerate() {
+        if !record::good(w) {
+            place = i;
+            break;
         }
-        let w = records[i];
         expected = recorded::expects(t, w);
         if stops(compare, w, expected) {
-            break i;
+            place = i;
+            break;
         }
         put(expected, words, i);
         match Way::of(t, w) {
@@ -92,8 +85,7 @@ pub fn follow(s: State, records: &[u32], words: &mut [u32], compare: bool) -> St
             Way::Ticks => t = recorded::ticks(t, w),
             Way::Other => t = recorded::other(t, w),
         }
-        i += 1;
-    };
+    }
     Stop {
         state: t,
         place,

@@ -15,11 +15,11 @@ use Rattle.client.proofs.file.begin.Goals as goal
 
 pub returns : goal.returns
 returns c =
-    let q = c.begin-p.result in
-    let same : (l : List ℕ) → rest_answer c.handed.result l ≡ replay_answer (rest_of q l) =
-    λ l. ap (λ (x : Progress). rest_answer x l) c.handed.ensures ∙ ap (λ (x : parts.Progress). replay_answer (rest_of x l)) (carried_again q)
+    let q = c.begin.result in
+    let same : (l : List ℕ) → rest_answer c.from.result l ≡ replay_answer (rest_of q l) =
+    λ l. ap (λ (x : Progress). rest_answer x l) c.from.ensures ∙ ap (λ (x : parts.Progress). replay_answer (rest_of x l)) (carried_again q)
     in
-    let begun = c.begin-p.ensures in
+    let begun = c.begin.ensures in
     let bytes = c.args.first.now in
     let told : Told q.replayed.outcome =
     either 8 (length bytes)
@@ -29,6 +29,6 @@ returns c =
     record {
       rest_value = λ h rest. same (drop 8 bytes ++ rest) ∙ ap replay_answer (begun.rest_value h rest);
       result_value = λ h. same [] ∙ ap replay_answer (begun.result_value h);
-      done_value = ap (λ (x : Progress). x.done) c.handed.ensures ∙ begun.place_value;
-      told_so_far = told_handed q c.handed.result c.handed.ensures told;
+      done_value = ap (λ (x : Progress). x.done) c.from.ensures ∙ begun.place_value;
+      told_so_far = told_handed q c.from.result c.from.ensures told;
     }
