@@ -6,10 +6,13 @@ use mathlib.Core.Bool.{Bool, true, false, cond, not, ◌&&◌}
 use lib.ListN.{get_or}
 use lib.Dec.{eqb}
 use borrow.Author.Tests.{not-true, eqb-false}
+use Rattle.std.specs.Prelude.{Option, Some, None, is_some, unwrap_or, option_map}
 use Rattle.flag.proofs.Laws.{cond_map, cond_same, and_left, and_right}
 use Rattle.frame.specs.Format.{format_of}
+use Rattle.queue.specs.declared.Entry.{Entry}
 use Rattle.queue.specs.Queue.{take_byte, put_entry, is_full}
 use Rattle.device.specs.declared.Latches.{Latches}
+use Rattle.device.specs.declared.Receiver.{Receiver}
 use Rattle.device.specs.declared.Received.{Received}
 use Rattle.device.specs.declared.State.{State}
 use Rattle.device.specs.State.{with_tx, with_frame, with_rx, with_receiver, with_latches, with_kept, with_k, with_empty, with_overrun, with_idle}
@@ -17,7 +20,7 @@ use Rattle.device.specs.Fifo.{capacity}
 use Rattle.device.specs.Lsr.{entering, kept_after}
 use Rattle.device.specs.Autoflow.{settled}
 use Rattle.device.specs.Transmitter.{frame_of, ready, shifted_out, loaded, transmitted}
-use Rattle.device.specs.Receiver.{heard, receiver_pulse_of, enters, with_entry, with_received, received}
+use Rattle.device.specs.Receiver.{heard, receiver_pulse_of, enters, with_entry, with_ended, with_received, received}
 use Rattle.device.specs.Idle.{counts, time_out_at, counted, idled}
 use Rattle.device.specs.Tick.{pulsed}
 
@@ -48,22 +51,22 @@ transmitted-sent s = go (loads s)
         sym (cond_map (λ (l : Latches). with_latches (with_tx (with_frame s (frame_of (get_or s.tx.bytes 0 0) (format_of s.registers.lcr))) (take_byte s.tx)) l)
         (eqb s.tx.count 1) _ _ _ _ refl refl)
 
--- the state after the receiver's part, which made r of the receiver and ended a character or not
-abbrev pub heard_by : Bool → State → Received → State
-heard_by end s r =
+-- the state after the receiver's part, which made v of the receiver and ended a character, with this entry, or not
+abbrev pub heard_by : Option Entry → State → Receiver → State
+heard_by ended s v =
     let c = capacity s.fifo in
-    let q = cond end (put_entry c s.rx (entering s.fifo r.entry)) s.rx in
-    let l = cond end (with_overrun s.latches (cond (is_full c s.rx.count) 1 s.latches.overrun)) s.latches in
-    let k = cond end (kept_after s.fifo r.entry s.kept) s.kept in
-    with_kept (with_latches (with_rx (with_receiver s r.receiver) q) l) k
+    let q = unwrap_or (option_map (λ e. put_entry c s.rx (entering s.fifo e)) ended) s.rx in
+    let l = cond (is_some ended) (with_overrun s.latches (cond (is_full c s.rx.count) 1 s.latches.overrun)) s.latches in
+    let k = unwrap_or (option_map (λ e. kept_after s.fifo e s.kept) ended) s.kept in
+    with_kept (with_latches (with_rx (with_receiver s v) q) l) k
 
-received-heard : (s : State) (r : Received) → with_received s r ≡ heard_by r.ended s r
+received-heard : (s : State) (r : Received) → with_received s r ≡ heard_by r.entry s r.receiver
 unfolding with_received with_entry
-received-heard s r = go r.ended
+received-heard s r = go r.entry
   where
-    go : (b : Bool) → cond b (with_entry (with_receiver s r.receiver) r.entry) (with_receiver s r.receiver) ≡ heard_by b s r
-    go false = refl
-    go true = refl
+    go : (ended : Option Entry) → with_ended (with_receiver s r.receiver) ended ≡ heard_by ended s r.receiver
+    go None = refl
+    go (Some e) = refl
 
 -- the latches after the idle count's part
 abbrev pub idled_latches : Bool → State → Latches
@@ -79,23 +82,23 @@ idled-latches b s = sym (cond_map (λ (l : Latches). with_latches s l) (counts s
 -- the state after the whole pulse, where u is that after the transmitter's part
 abbrev pub after_event : State → Received → State
 after_event u r =
-    let w = heard_by r.ended u r in
-    settled (with_latches w (idled_latches (r.ended && not (is_full (capacity u.fifo) u.rx.count)) w))
+    let w = heard_by r.entry u r.receiver in
+    settled (with_latches w (idled_latches (is_some r.entry && not (is_full (capacity u.fifo) u.rx.count)) w))
 
 pub pulsed_event : (s : State) (r : Received) → r ≡ receiver_pulse_of (sent (loads s) s) → settled (pulsed s) ≡ after_event (sent (loads s) s) r
 unfolding pulsed received enters
 pulsed_event s r q =
     let u = sent (loads s) s in
-    let entered : Received → Bool = λ h. h.ended && not (is_full (capacity u.fifo) u.rx.count) in
+    let entered : Received → Bool = λ h. is_some h.entry && not (is_full (capacity u.fifo) u.rx.count) in
     ap (λ (t : State). settled (idled (enters t) (received t))) (transmitted-sent s)
     ∙ ap (λ (h : Received). settled (idled (entered h) (with_received u h))) (sym q)
     ∙ ap (λ (w : State). settled (idled (entered r) w)) (received-heard u r)
-    ∙ ap settled (idled-latches (entered r) (heard_by r.ended u r))
+    ∙ ap settled (idled-latches (entered r) (heard_by r.entry u r.receiver))
 
 -- transmitter and receiver leave the idle count as it is
-pub event_idle : (end : Bool) (s : State) (r : Received) → (heard_by end (sent (loads s) s) r).latches.idle ≡ s.latches.idle
-event_idle end s r =
-    cond_same (λ (l : Latches). l.idle) end _ _ _ sent_idle sent_idle
+pub event_idle : (ended : Option Entry) (s : State) (v : Receiver) → (heard_by ended (sent (loads s) s) v).latches.idle ≡ s.latches.idle
+event_idle ended s v =
+    cond_same (λ (l : Latches). l.idle) (is_some ended) _ _ _ sent_idle sent_idle
   where
     sent_idle : (sent (loads s) s).latches.idle ≡ s.latches.idle
     sent_idle =

@@ -6,13 +6,16 @@ use mathlib.Core.Path.{◌≡◌, refl}
 use mathlib.Core.Bool.{◌&&◌}
 use lib.Dec.{eqb}
 use lib.Pow.{pow_pos}
+use Rattle.std.specs.Prelude.{Option, Some, None}
 use Rattle.flag.proofs.Laws.{by_test, cond_same}
 use Rattle.frame.specs.Format.{data_bits}
+use Rattle.queue.specs.declared.Entry.{Entry}
 use Rattle.device.specs.declared.Receiver.{Receiver}
 use Rattle.device.specs.declared.Received.{Received}
 use Rattle.device.specs.declared.State.{State}
 use Rattle.device.specs.Transmitter.{ready, shifted_out, loaded, transmitted}
-use Rattle.device.specs.Receiver.{samples_taken, with_entry, with_received}
+use Rattle.device.specs.State.{with_receiver}
+use Rattle.device.specs.Receiver.{samples_taken, with_entry, with_ended, with_received}
 use Rattle.invariant.proofs.Good.{ReceiverFacts, good_of}
 use Rattle.invariant.proofs.Settled.{Kept}
 use Rattle.receiver.specs.Needs.{Placed, Sampling, Hearing}
@@ -70,4 +73,8 @@ transmitted_idle s =
 
 pub received_idle : (s : State) (r : Received) → (with_received s r).latches.idle ≡ s.latches.idle
 unfolding with_received with_entry
-received_idle s r = cond_same idle_count r.ended _ _ _ refl refl
+received_idle s r = go r.entry
+  where
+    go : (o : Option Entry) → idle_count (with_ended (with_receiver s r.receiver) o) ≡ s.latches.idle
+    go None = refl
+    go (Some e) = refl

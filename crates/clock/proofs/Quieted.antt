@@ -7,6 +7,7 @@ use mathlib.Core.Bool.{Bool, true, false, cond, ◌&&◌, false≢true}
 use lib.Dec.{eqb}
 use borrow.Author.Tests.{not-true, eq-eqb, ne_eqb, eqb-true}
 use Rattle.frame.specs.Frame.{line_level}
+use Rattle.queue.specs.declared.Entry.{Entry}
 use Rattle.device.specs.declared.Frame.{Frame}
 use Rattle.device.specs.declared.Receiver.{Receiver}
 use Rattle.device.specs.declared.State.{State}
@@ -63,16 +64,16 @@ pub quiet_is_pulse : (s : State) (q : QuietPulse) → settled s ≡ s
     → quiet_of (setting_of s) s.frame s.receiver s.latches ≡ Some q
     → settled (pulsed s) ≡ quieted s q
 unfolding quiet_of setting_of
-quiet_is_pulse s q e = go (eqb (shifted_out s.frame).left 0 && ready s) refl (heard_quietly s).ended refl
+quiet_is_pulse s q e = go (eqb (shifted_out s.frame).left 0 && ready s) refl (heard_quietly s).entry refl
   where
     left : QuietPulse
     left = record { frame = shifted_out s.frame; receiver = (heard_quietly s).receiver; latches = later s }
 
     go : (b : Bool) → (eqb (shifted_out s.frame).left 0 && ready s) ≡ b
-        → (d : Bool) → (heard_quietly s).ended ≡ d
-        → cond b None (cond d None (Some left)) ≡ Some q
+        → (d : Option Entry) → (heard_quietly s).entry ≡ d
+        → cond b None (cond (is_some d) None (Some left)) ≡ Some q
         → settled (pulsed s) ≡ quieted s q
     go true p d r h = absurd (false≢true (ap is_some h))
-    go false p true r h = absurd (false≢true (ap is_some h))
-    go false p false r h =
+    go false p (Some x) r h = absurd (false≢true (ap is_some h))
+    go false p None r h =
         pulsed_quiet s e p r ∙ ap (λ (o : Option QuietPulse). quieted s (unwrap_or o left)) h

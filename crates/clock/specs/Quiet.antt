@@ -1,6 +1,6 @@
 -- The quiet pulse: no byte is loaded and no character ends. It changes numbers alone, and
 -- leaves the queues where they are. What these definitions say of a pulse is proved against `Tick.antt`.
-use Rattle.std.specs.Prelude.{ℕ, ◌+◌, ◌%◌, Bool, false, cond, not, ◌&&◌, eqb, Option, Some, None}
+use Rattle.std.specs.Prelude.{ℕ, ◌+◌, ◌%◌, Bool, false, cond, not, ◌&&◌, eqb, Option, Some, None, is_some}
 use Rattle.device.specs.declared.Frame.{Frame}
 use Rattle.device.specs.declared.Receiver.{Receiver}
 use Rattle.device.specs.declared.Latches.{Latches}
@@ -49,6 +49,6 @@ quiet_of c x v l =
     let r = receiver_pulse (cond c.loopback (line y) c.sin) c.lcr v in
     cond (eqb y.left 0 && c.ready)
     None
-    (cond r.ended
+    (cond (is_some r.entry)
     None
     (Some (record { frame = y; receiver = r.receiver; latches = cond c.counts (counted c.limit l) l })))

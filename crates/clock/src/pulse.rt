@@ -49,14 +49,13 @@ pub fn pulses(s: State, k: u32, n: u32) -> State
         let v = h.receiver;
         t.receiver = v;
         let full = receiver::is_full(f, t.rx.count);
-        if h.ended {
+        if let Some(e) = h.entry {
             let q = t.rx;
-            let e = h.entry;
             t.latches = receiver::overrun(full, t.latches);
             t.rx = queue::entries::put(q, fifo::capacity(f), errors::entering(f, e));
             t.kept = errors::kept_after(f, e, t.kept);
         }
-        let entered = h.ended & !full;
+        let entered = h.entry.is_some() & !full;
         let l = idle::later(f, t.rx.count, r.lcr, entered, t.latches);
         t.latches = autoflow::settle_latches(r, f, t.rx.count, l);
         left -= 1;
@@ -71,7 +70,7 @@ pub fn pulse(s: State) -> State
 {
     let t = transmitter::transmit(s);
     let r = receiver::hear(t);
-    let entered = receiver::enters(t, r.ended);
+    let entered = receiver::enters(t, r.entry.is_some());
     let u = receiver::accept(t, r);
     autoflow::settle(idle::idle(entered, u))
 }

@@ -86,7 +86,7 @@ pub fn quiet_pulse(c: Setting, x: Frame, v: Receiver, l: Latches) -> Option<Quie
         });
     }
     let r = receiver::listen(c.loopback, next, c.sin, c.lcr, v);
-    if r.ended {
+    if r.entry.is_some() {
         return None;
     }
     Some(QuietPulse {

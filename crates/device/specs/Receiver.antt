@@ -1,11 +1,11 @@
 -- The receiver's part of a pulse: the receiver shift register, RSR, on SIN or the looped line (SLLS191C, "receiver
 -- buffer register (RBR)", LCR bit 2 and LSR bits 1 to 4; document 01, "A tick", 2, and "Receiver"). RCLK is the
 -- transmitter's 16x clock.
-use Rattle.std.specs.Prelude.{ℕ, ◌+◌, ◌-◌, ◌*◌, ◌/◌, ◌%◌, ◌^◌, Bool, true, false, cond, not, ◌&&◌, ltb, eqb}
+use Rattle.std.specs.Prelude.{ℕ, ◌+◌, ◌-◌, ◌*◌, ◌/◌, ◌%◌, ◌^◌, Bool, cond, not, ◌&&◌, ltb, eqb, Option, Some, None, is_some}
 use Rattle.flag.specs.Flag.{bit_of}
 use Rattle.frame.specs.Format.{format_of, data_bits, parity_bits, parity_bit}
 use Rattle.queue.specs.declared.Entry.{Entry}
-use Rattle.queue.specs.Queue.{no_entry, put_entry, is_full}
+use Rattle.queue.specs.Queue.{put_entry, is_full}
 use Rattle.device.specs.declared.Receiver.{Receiver}
 use Rattle.device.specs.declared.Received.{Received}
 use Rattle.device.specs.declared.State.{State}
@@ -26,7 +26,7 @@ samples_taken p = (p - 8) / 16
 
 -- no character ended
 abbrev pub goes_on : Receiver → Received
-goes_on v = record { receiver = v; ended = false; entry = no_entry }
+goes_on v = record { receiver = v; entry = None }
 
 -- a character begins at position p, its format from LCR
 abbrev pub start_at : ℕ → ℕ → Receiver
@@ -57,8 +57,7 @@ unfoldable pub stop_sample : ℕ → ℕ → Receiver → Received
 stop_sample h lcr v =
     record {
       receiver = cond (is_break v h) waiting (cond (eqb h 0) (start_at 8 lcr) idle_receiver);
-      ended = true;
-      entry = entry_of v h;
+      entry = Some (entry_of v h);
     }
 
 -- the character at position p
@@ -108,7 +107,7 @@ receiver_pulse_of s = receiver_pulse (heard s) s.registers.lcr s.receiver
 
 -- a character enters the queue in this pulse
 unfoldable pub enters : State → Bool
-enters s = (receiver_pulse_of s).ended && not (is_full (capacity s.fifo) s.rx.count)
+enters s = is_some (receiver_pulse_of s).entry && not (is_full (capacity s.fifo) s.rx.count)
 
 -- the state with an entry put into the queue. A full queue sets OE; with FIFO on the new character is lost, in
 -- character mode it replaces the old, and its errors are kept apart
@@ -119,10 +118,14 @@ with_entry s e =
     let u = with_latches t (with_overrun s.latches (cond (is_full c s.rx.count) 1 s.latches.overrun)) in
     with_kept u (kept_after s.fifo e s.kept)
 
+-- the state with the entry of a character, where one ended
+abbrev pub with_ended : State → Option Entry → State
+with_ended s None = s
+with_ended s (Some e) = with_entry s e
+
 -- the state with what a pulse made of the receiver, and with the entry of a character that ended
 unfoldable pub with_received : State → Received → State
-with_received s r =
-    cond r.ended (with_entry (with_receiver s r.receiver) r.entry) (with_receiver s r.receiver)
+with_received s r = with_ended (with_receiver s r.receiver) r.entry
 
 -- the receiver's part of a pulse
 unfoldable pub received : State → State

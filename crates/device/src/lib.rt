@@ -198,12 +198,12 @@ pub struct Reading {
     pub state: State,
 }
 
-// What a pulse makes of the receiver: its next state, and the entry of a character that ended.
+// What a pulse makes of the receiver: its next state, and the entry of a character, where one
+// ended.
 #[derive(Clone, Copy)]
 pub struct Received {
     pub receiver: Receiver,
-    pub ended: bool,
-    pub entry: queue::Entry,
+    pub entry: Option<queue::Entry>,
 }
 
 // The output pins as levels (SOUT, INTRPT: 1 is high; the others: 1 is asserted).

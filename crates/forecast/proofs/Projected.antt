@@ -8,19 +8,21 @@ use lib.Dec.{eqb}
 use lib.ListN.{length, get_or, drop}
 use lib.Seq.{length-take-le}
 use borrow.Author.Tests.{eqb-false}
+use Rattle.std.specs.Prelude.{Option, Some, None}
 use Rattle.flag.proofs.Laws.{cond_map, cond_same}
 use Rattle.frame.specs.Format.{format_of, frame_length}
 use Rattle.frame.proofs.Transmitter.{Transmitter, with_frame as atFrame, pulse, tick, ticks}
 use Rattle.queue.specs.declared.ByteQueue.{ByteQueue}
+use Rattle.queue.specs.declared.Entry.{Entry}
 use Rattle.queue.specs.Queue.{contents, take_byte}
 use Rattle.queue.proofs.Contents.{take-oldest, take-contents}
 use Rattle.device.specs.declared.Answer.{Answer}
 use Rattle.device.specs.declared.Frame.{Frame}
 use Rattle.device.specs.declared.State.{State}
-use Rattle.device.specs.State.{with_frame, no_frame, with_k}
+use Rattle.device.specs.State.{with_frame, with_receiver, no_frame, with_k}
 use Rattle.device.specs.Autoflow.{held, settled}
 use Rattle.device.specs.Transmitter.{loaded, ready, shifted_out, transmitted}
-use Rattle.device.specs.Receiver.{receiver_pulse_of, enters, with_entry, with_received, received}
+use Rattle.device.specs.Receiver.{receiver_pulse_of, enters, with_entry, with_ended, with_received, received}
 use Rattle.device.specs.Idle.{counts, idled}
 use Rattle.device.specs.Tick.{pulsed, ticked}
 use Rattle.device.specs.Calls.{done, tick_of, ticks_of}
@@ -93,7 +95,11 @@ transmitted_transmitter s w =
 -- the other parts do not touch it
 received_transmitter : (s : State) → transmitter_of (received s) ≡ transmitter_of s
 unfolding received with_received with_entry
-received_transmitter s = cond_same transmitter_of (receiver_pulse_of s).ended _ _ _ refl refl
+received_transmitter s = go (receiver_pulse_of s).entry
+  where
+    go : (o : Option Entry) → transmitter_of (with_ended (with_receiver s (receiver_pulse_of s).receiver) o) ≡ transmitter_of s
+    go None = refl
+    go (Some e) = refl
 
 idled_transmitter : (new : Bool) (s : State) → transmitter_of (idled new s) ≡ transmitter_of s
 unfolding idled

@@ -8,6 +8,7 @@ use lib.Seq.{get_or-drop}
 use native.Mathlib.Decide.{dec_lt}
 use native.Mathlib.Omega.{arith}
 use borrow.Author.Tests.{eqb-true, eqb-false, not-true}
+use Rattle.std.specs.Prelude.{Option, Some, None, IfSome}
 use Rattle.flag.specs.Flag.{on}
 use Rattle.flag.proofs.Laws.{by_test, and_left, and_right, and_both}
 use Rattle.frame.specs.Format.{format_of, data_bits, parity_bits, frame_length, has_parity, parity_bit}
@@ -25,7 +26,7 @@ use Rattle.device.specs.Fifo.{capacity}
 use Rattle.device.specs.Modem.{loopback}
 use Rattle.device.specs.Lsr.{without_errors, entering, kept_after}
 use Rattle.device.specs.Transmitter.{loaded, ready, shifted_out, transmitted}
-use Rattle.device.specs.Receiver.{heard, receiver_pulse_of, enters, with_entry, with_received, received}
+use Rattle.device.specs.Receiver.{heard, receiver_pulse_of, enters, with_entry, with_ended, with_received, received}
 use Rattle.device.specs.Idle.{counts, time_out_at, counted, idled}
 use Rattle.device.specs.Tick.{pulsed, ticked}
 use Rattle.invariant.proofs.Tests.{bit-most}
@@ -168,12 +169,16 @@ entry_sound s e t w =
     overrun : cond (is_full c n) 1 s.latches.overrun ≤ 1
     overrun = by_test (λ (o : ℕ). o ≤ 1) (is_full c n) _ _ (λ _. omega arith) (λ _. w.latches.overrun_most)
 
+ended_sound : (s : State) (o : Option Entry) → IfSome o (λ e. entry_within 1 e ≡ true) → Sound s → Sound (with_ended s o)
+ended_sound s None t w = w
+ended_sound s (Some e) t w = entry_sound s e t w
+
 pub received_sound : (s : State) → Sound s → Sound (received s)
 unfolding received with_received
 received_sound s w =
     let g = receiver_pulse_facts (heard s) s.registers.lcr s.receiver (heard-most s w) w.receive.receiver in
     let kept = sound_receiver w (receiver_pulse_of s).receiver g.receiver in
-    by_test Sound (receiver_pulse_of s).ended _ _ (λ _. entry_sound _ (receiver_pulse_of s).entry g.flags kept) (λ _. kept)
+    ended_sound _ (receiver_pulse_of s).entry g.flags kept
 
 -- The idle count.
 

@@ -6,6 +6,7 @@ use lib.Dec.{ltb, eqb}
 use native.Mathlib.Nat.{one-le-pow}
 use native.Mathlib.Omega.{arith}
 use borrow.Author.Tests.{le-leb, eqb-true, eqb-false, ltb-true, ltb-false}
+use Rattle.std.specs.Prelude.{IfSome}
 use Rattle.flag.proofs.Laws.{by_test, and_both}
 use Rattle.frame.specs.Format.{format_of, data_bits, parity_bits, parity_bit}
 use Rattle.queue.specs.Queue.{entry_within}
@@ -18,13 +19,13 @@ use Rattle.invariant.proofs.Tests.{bit-most}
 use Rattle.invariant.proofs.Good.{CharacterFacts, OutsideFacts, ReceiverFacts}
 use Rattle.invariant.proofs.Sampling.{none_taken, none_at_start, one_taken, character-on, character_data, character-parity}
 
--- what is to hold of a pulse's outcome: the receiver's ranges, and the flags of the entry
+-- what is to hold of a pulse's outcome: the receiver's ranges, and the flags of the entry, where there is one
 pub record ReceivedFacts (r : Received) : Type 0 where
   pub receiver : ReceiverFacts r.receiver
-  pub flags : entry_within 1 r.entry ≡ true
+  pub flags : IfSome r.entry (λ e. entry_within 1 e ≡ true)
 
 goes_on_lem : (v : Receiver) → ReceiverFacts v → ReceivedFacts (goes_on v)
-goes_on_lem v g = record { receiver = g; flags = refl }
+goes_on_lem v g = record { receiver = g; flags = tt }
 
 outside_facts : (v : Receiver) → v.phase ≤ 1 → OutsideFacts v → ReceiverFacts v
 outside_facts v h g = record { phase_most = omega arith; character = λ e. absurd (omega arith); outside = λ _. g }

@@ -4,7 +4,9 @@ use mathlib.Core.Path.{◌≡◌, refl, sym, ap, ◌∙◌}
 use mathlib.Core.Bool.{Bool, false, ◌&&◌, true≢false}
 use lib.Dec.{eqb}
 use borrow.Author.Tests.{not-false}
+use Rattle.std.specs.Prelude.{Option, Some, None}
 use Rattle.flag.proofs.Laws.{by_test}
+use Rattle.queue.specs.declared.Entry.{Entry}
 use Rattle.device.specs.declared.State.{State}
 use Rattle.device.specs.State.{with_registers, with_baud, with_tx, with_frame, with_rx, with_receiver, with_latches, with_kept}
 use Rattle.device.specs.Autoflow.{settled}
@@ -16,7 +18,7 @@ use Rattle.device.specs.Msr.{with_levels}
 use Rattle.device.specs.Scr.{scr_write}
 use Rattle.device.specs.Divisor.{divisor_low_write, divisor_high_write}
 use Rattle.device.specs.Transmitter.{loaded, ready, shifted_out, transmitted}
-use Rattle.device.specs.Receiver.{receiver_pulse_of, enters, with_entry, with_received, received}
+use Rattle.device.specs.Receiver.{receiver_pulse_of, enters, with_entry, with_ended, with_received, received}
 use Rattle.device.specs.Idle.{counts, idled}
 use Rattle.device.specs.Tick.{pulsed}
 use Rattle.device.specs.Calls.{write_register}
@@ -111,7 +113,11 @@ transmitted_touches s =
 
 received_touches : (s : State) → Touches by_pulse s (received s)
 unfolding received with_received with_entry
-received_touches s = by_test (Touches by_pulse s) (receiver_pulse_of s).ended _ _ (λ _. refl) (λ _. refl)
+received_touches s = go (receiver_pulse_of s).entry
+  where
+    go : (o : Option Entry) → Touches by_pulse s (with_ended (with_receiver s (receiver_pulse_of s).receiver) o)
+    go None = refl
+    go (Some e) = refl
 
 idled_touches : (new : Bool) (s : State) → Touches by_pulse s (idled new s)
 unfolding idled

@@ -4,6 +4,7 @@ use native.Mathlib.Omega.{arith}
 use mathlib.Core.Path.{◌≡◌, refl, sym, ap, subst, ◌∙◌}
 use mathlib.Core.Bool.{Bool, true, false, cond, ◌&&◌}
 use lib.Dec.{eqb}
+use Rattle.std.specs.Prelude.{None}
 use Rattle.flag.proofs.Laws.{by_test, cond_map}
 use Rattle.device.specs.declared.Registers.{Registers}
 use Rattle.device.specs.declared.FifoControl.{FifoControl}
@@ -34,11 +35,11 @@ transmitted_quiet : (s : State) → (eqb (shifted_out s.frame).left 0 && ready s
 unfolding transmitted
 transmitted_quiet s e = simp e
 
-received_quiet : (t : State) → (receiver_pulse_of t).ended ≡ false → received t ≡ with_receiver t (receiver_pulse_of t).receiver
+received_quiet : (t : State) → (receiver_pulse_of t).entry ≡ None → received t ≡ with_receiver t (receiver_pulse_of t).receiver
 unfolding received with_received
 received_quiet t e = simp e
 
-enters_not : (t : State) → (receiver_pulse_of t).ended ≡ false → enters t ≡ false
+enters_not : (t : State) → (receiver_pulse_of t).entry ≡ None → enters t ≡ false
 unfolding enters
 enters_not t e = simp e
 
@@ -70,7 +71,7 @@ parts s x v l = with_latches (with_receiver (with_frame s x) v) l
 -- the whole pulse
 pub pulsed_quiet : (s : State) → settled s ≡ s
     → (eqb (shifted_out s.frame).left 0 && ready s) ≡ false
-    → (heard_quietly s).ended ≡ false
+    → (heard_quietly s).entry ≡ None
     → settled (pulsed s) ≡ parts s (shifted_out s.frame) (heard_quietly s).receiver (later s)
 unfolding pulsed heard settled
 pulsed_quiet s e none on =
@@ -119,7 +120,7 @@ quiet_none s w =
 quiet_next : (m : ℕ) (s : State) → Kept s → Kept (quiet_by m s) → suc m ≤ reach_of s → settled (pulsed (quiet_by m s)) ≡ quiet_by (suc m) s
 unfolding quiet_by reach_of ready
 quiet_next m s w kept within =
-    pulsed_quiet t (kept-settled t kept) (ap (λ (x : Frame). eqb x.left 0 && ready s) next ∙ nothing-loaded (ready s) m s.frame (omega arith)) (ap (λ (r : Received). r.ended) receiver)
+    pulsed_quiet t (kept-settled t kept) (ap (λ (x : Frame). eqb x.left 0 && ready s) next ∙ nothing-loaded (ready s) m s.frame (omega arith)) (ap (λ (r : Received). r.entry) receiver)
     ∙ ap (λ (x : Frame). parts s x (heard_quietly t).receiver (later t)) next
     ∙ ap (λ (r : Received). parts s (shifted_by (suc m) s.frame) r.receiver (later t)) receiver
     ∙ ap (λ (l : Latches). parts s (shifted_by (suc m) s.frame) (receiver_by (suc m) s) l) (latches_next (counts s.fifo s.rx.count) (time_out_at s.registers.lcr) m s.latches)

@@ -48,8 +48,7 @@ fn goes_on(v: Receiver) -> Received
 {
     Received {
         receiver: v,
-        ended: false,
-        entry: queue::entries::none(),
+        entry: None,
     }
 }
 
@@ -89,8 +88,7 @@ fn stop_sample(level: u8, lcr: u8, v: Receiver) -> Received
     };
     Received {
         receiver,
-        ended: true,
-        entry: entry_of(v, level),
+        entry: Some(entry_of(v, level)),
     }
 }
 
@@ -235,8 +233,8 @@ pub fn accept(s: State, r: Received) -> State
         receiver: r.receiver,
         ..s
     };
-    if r.ended {
-        return enter(next, r.entry);
+    if let Some(e) = r.entry {
+        return enter(next, e);
     }
     next
 }

@@ -18,4 +18,4 @@ idle-requires c =
 
 pub returns : goal.returns
 unfolding pulsed received enters
-returns c = rw (c.settle.ensures, c.idle.ensures, c.accept-u.ensures, c.enters-entered.ensures, c.hear-r.ensures, c.transmit-t.ensures)
+returns c = rw (c.settle.ensures, c.idle.ensures, c.accept-u.ensures, c.enters-entered.ensures, c.is_some.ensures, c.hear-r.ensures, c.transmit-t.ensures)

@@ -1,6 +1,8 @@
 -- Each turn makes the quiet pulses before the next event, or the pulse in which it happens, part by part.
-use Rattle.std.proofs.Common.{◌≡◌, sym, ap, subst, ◌∙◌, Bool, false, cond, not, ◌&&◌, arith, rules}
+use Rattle.std.proofs.Common.{◌≡◌, sym, ap, subst, ◌∙◌, Bool, cond, not, ◌&&◌, arith, rules}
 use lib.Dec.{eqb}
+use Rattle.std.specs.Prelude.{Option, None, is_some}
+use Rattle.queue.specs.declared.Entry.{Entry}
 use Rattle.queue.specs.Queue.{put_entry, is_full}
 use Rattle.queue.proofs.Laws.{length_mapped}
 use Rattle.device.specs.declared.Frame.{Frame}
@@ -23,7 +25,7 @@ use Rattle.quiet_pulses.proofs.Quiet.{quiet_by, quiet_hearing, quiet_pulses}
 use Rattle.clock.proofs.Event.{loads, sent, heard_by, pulsed_event, event_idle}
 use Rattle.clock.proofs.Going.{going_start, going_on, going_once}
 use Rattle.clock.proofs.Needed.{state_sampling, state_idle}
-use Rattle.clock.proofs.pulse.pulses.Goals.{Joined-loads, After-listen-h, Joined-h, then-loads, else-loads, then-h, else-h}
+use Rattle.clock.proofs.pulse.pulses.Goals.{Joined-loads, After-listen-h, Joined-h, then-loads, else-loads, in-Some, in_default}
 use Rattle.clock.proofs.pulse.pulses.Goals as goal
 
 -- the transmitter's part
@@ -57,27 +59,27 @@ heard-is c e =
 
 -- the receiver's part
 heard-by : (c : Joined-h) → c.if-loads.t ≡ sent (loads c.loop-left.t) c.loop-left.t
-    → c.if-h.t ≡ heard_by c.listen-h.result.ended (sent (loads c.loop-left.t) c.loop-left.t) c.listen-h.result
+    → c.match-h.t ≡ heard_by c.listen-h.result.entry (sent (loads c.loop-left.t) c.loop-left.t) c.listen-h.result.receiver
 heard-by c e =
     let t = c.loop-left.t in
     let s = sent (loads t) t in
     let h = c.listen-h.result in
     let f = t.fifo in
     let u = c.if-loads.t in
-    let put : Bool → State → State =
-    λ full u. with_kept
-    (with_latches (with_rx (with_receiver u h.receiver) (put_entry (capacity f) u.rx (entering f h.entry)))
+    let put : Entry → Bool → State → State =
+    λ e full u. with_kept
+    (with_latches (with_rx (with_receiver u h.receiver) (put_entry (capacity f) u.rx (entering f e)))
     (with_overrun u.latches (cond full 1 u.latches.overrun)))
-    (kept_after f h.entry u.kept) in
-    elim c.if-h.branch [
-      | then-h w ↦
+    (kept_after f e u.kept) in
+    elim c.match-h.branch [
+      | in-Some w ↦
           w.t-is
           ∙ rw (w.kept_after-t.ensures, w.put-t.ensures, w.entering.ensures, w.capacity.ensures.0, w.overrun-t.ensures)
-          (ap (λ (full : Bool). put full u) c.is_full-full.ensures
-          ∙ ap (λ (v : State). put (is_full (capacity f) v.rx.count) v) e
-          ∙ ap (λ (b : Bool). heard_by b s h) (sym w.if-h.true))
-      | else-h w ↦
-          w.t-is ∙ ap (λ (u : State). heard_by false u h) e ∙ ap (λ (b : Bool). heard_by b s h) (sym w.if-h.false)
+          (ap (λ (full : Bool). put w.in-Some.e full u) c.is_full-full.ensures
+          ∙ ap (λ (v : State). put w.in-Some.e (is_full (capacity f) v.rx.count) v) e
+          ∙ ap (λ (o : Option Entry). heard_by o s h.receiver) (sym w.in-Some.is))
+      | in_default w ↦
+          w.t-is ∙ ap (λ (u : State). heard_by None u h.receiver) e ∙ ap (λ (o : Option Entry). heard_by o s h.receiver) (sym w.in_default.is)
     ]
 
 pub loop-left-init : goal.loop-left-init
@@ -122,7 +124,7 @@ later-l-requires c =
     let t = c.loop-left.t in
     let h = c.listen-h.result in
     let at = goal.at.later-l-requires c in
-    let same = ap (λ (w : State). w.latches.idle) (heard-by at.Joined-h (sent-by at.Joined-loads)) ∙ event_idle h.ended t h in
+    let same = ap (λ (w : State). w.latches.idle) (heard-by at.Joined-h (sent-by at.Joined-loads)) ∙ event_idle h.entry t h.receiver in
     omega (arith, same, state_idle t c.loop-left.invariant.kept)
 
 pub loop-left-preserved : goal.loop-left-preserved
@@ -132,15 +134,16 @@ loop-left-preserved c =
     let e = sent-by at.Joined-loads in
     let t = c.loop-left.t in
     let h = c.listen-h.result in
-    let w = c.if-h.t in
+    let w = c.match-h.t in
     let settles : State → Latches → State = λ x l. with_latches x (settled_latches t.registers t.fifo x.rx.count l) in
     let idles : Bool → State → Latches =
     λ b x.
     cond (counts t.fifo x.rx.count) (cond b (with_idle x.latches 0) (counted (time_out_at t.registers.lcr) x.latches)) x.latches in
-    let entered : Bool → Bool = λ b. h.ended && not b in
+    let entered : Bool → Bool = λ b. is_some h.entry && not b in
     going_once _ _ _ _ c.loop-left.invariant _ c.loop-left-test.true
     (ap (λ (l : Latches). with_latches w l) c.settle_latches-t.ensures
     ∙ ap (λ (l : Latches). settles w l) c.later-l.ensures
+    ∙ ap (λ (b : Bool). settles w (idles (b && not c.is_full-full.result) w)) c.is_some.ensures
     ∙ ap (λ (b : Bool). settles w (idles (entered b) w)) c.is_full-full.ensures
     ∙ ap (λ (u : State). settles w (idles (entered (is_full (capacity t.fifo) u.rx.count)) w)) e
     ∙ ap (λ (x : State). settles x (idles (entered (is_full (capacity t.fifo) t.rx.count)) x)) (heard-by at.Joined-h e)
