@@ -14,7 +14,8 @@ use sheet::answer;
 use sheet::part::NONE;
 
 // How a replay ended: every read agreed, one differs, or a refusal, of a state that is not well formed
-// with its part that is bad.
+// with its part that is bad. Number and part are bytes, as the C interface and the line of an answer have
+// them.
 #[derive(Clone, Copy)]
 pub enum Outcome {
     Agreed,

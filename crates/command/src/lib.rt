@@ -150,7 +150,7 @@ fn two_numbers(numbers: &[u8], most: u32) -> Option<(u32, u32)>
     Some((a, b))
 }
 
-// The command `write` with these numbers.
+// The command `write` with these numbers. Each command below has its own row of the table in its contract.
 fn write(numbers: &[u8]) -> Command
     ensures value { result ≡ look_up table (text "write") («words_of» numbers.now) }
     ensures result_value { beside result ≡ 0 }

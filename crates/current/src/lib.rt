@@ -115,7 +115,8 @@ fn moved_to(s: Session, state: State, end: usize) -> Said
     }
 }
 
-// Makes a step, and puts its answer.
+// Makes a step, and puts its answer. The calls below do the same with another call and its answer, whose
+// fields have other names: one function for all would take two closures.
 pub fn stepped(s: Session, c: Call, out: &mut [u8], at: usize) -> Said
     requires { at + 88 ≤ length out.old }
     ensures session_value { result.session ≡ moved s (step_of s.state c).state }

@@ -62,7 +62,7 @@ fn latches_fit(n: &[u32; COUNT]) -> bool
 }
 
 // The lowest part of the state with a number that does not fit its place's type; 0 exactly where every
-// number fits.
+// number fits. A byte and no Option, as `ranges::part_of`.
 pub fn unfit_part(n: &[u32; COUNT]) -> u8
     ensures lowest { result ≡ unfit_part n.now }
     ensures none { fits n.now ≡ eqb result 0 }

@@ -17,7 +17,8 @@ use ranges::part_of;
 use sheet::answer;
 use sheet::part::NONE;
 
-// Why the forecast is refused: the number that it answers, and the part of the state that is bad.
+// Why the forecast is refused: the number that it answers, and the part of the state that is bad, as the
+// answers of the C interface have them.
 #[derive(Clone, Copy)]
 struct Refusal {
     number: u8,

@@ -3,7 +3,8 @@ use std::io;
 use std::io::{IsTerminal, Write};
 use std::time::Clock;
 
-// The second in which this was told last, whether to tell at all, and the records that were told.
+// The second in which this was told last, whether to tell at all, and the records that were told. A flag
+// and no Option of the rest, which every call would take apart.
 #[derive(Drop)]
 pub struct Watch {
     second: u64,

@@ -88,7 +88,8 @@ fn receiver_numbers(v: Receiver, l: Latches, k: Errors) -> [u32; 14]
     ]
 }
 
-// Puts the places of the transmit queue into out from `at` on.
+// Puts the places of the transmit queue into out from `at` on. A place of this queue has one number, one of
+// the receive queue four: one function for both would take their count and a closure.
 fn put_bytes(bytes: [u8; limits::PLACES], out: &mut [u32], at: usize)
     requires { at + 64 ≤ length out.old }
     ensures { Appended out.old at bytes out.new (at + 64) }

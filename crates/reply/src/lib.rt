@@ -28,6 +28,7 @@ pub fn step(s: State, c: Call) -> Answer
     }
 }
 
+// The pins stand here and below: an array takes no other in its middle.
 pub fn step_numbers(a: Answer) -> [u32; 8]
     ensures { result ≡ step_numbers a }
 {
