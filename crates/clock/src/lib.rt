@@ -13,7 +13,8 @@ ghost use Rattle.device.specs.Ranges.{well_formed};
 
 use device::{Frame, Latches, Receiver, State};
 
-// What a pulse looks at and does not change, while the queues stay as they are.
+// What a pulse looks at and does not change, while the queues stay as they are. Each flag is a setting of
+// its own: no value stands beside it.
 #[derive(Clone, Copy)]
 pub struct Setting {
     pub lcr: u8,

@@ -77,7 +77,7 @@ pub struct Receiver {
     pub position: u32,
 }
 
-// The phases of the receiver.
+// The phases of the receiver: bytes and no enum, since the C interface has them in the state.
 pub const IDLE: u8 = 0;
 
 pub const WAITING: u8 = 1;
@@ -218,7 +218,8 @@ pub struct Outputs {
     pub intrpt: u8,
 }
 
-// The answers. Beside number 1 stands the part of the state that is bad, beside every other number 0.
+// The answers. Beside number 1 stands the part of the state that is bad, beside every other number 0. Both
+// are bytes and no enum, and each answer is a struct of its own, since C has them so.
 
 // What the look at the pins answers.
 #[repr(C)]

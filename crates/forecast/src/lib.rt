@@ -14,8 +14,8 @@ use device::State;
 use settings::autoflow;
 use sheet::{answer, limits};
 
-// The number that the forecast answers, as the C interface has it: 4 where work is left and there is no clock, 5 where bytes
-// are queued and held back, else 0.
+// The number that the forecast answers, as the C interface has it: 4 where work is left and there is no
+// clock, 5 where bytes are queued and held back, else 0.
 #[tactic(auto, unfolding(device::specs::Forecast::forecast_number, device::specs::Forecast::no_clock, device::specs::Forecast::held_back))]
 pub fn number(s: State) -> u8
     requires { well_formed s ≡ true }

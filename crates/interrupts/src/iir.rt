@@ -21,8 +21,8 @@ fn enough(f: FifoControl, count: u32) -> bool
 }
 
 // The identification code, that of the first cause that applies, where it is known whether PE, FE or BI
-// shows. Each cause counts where IER enables its interrupt. (With that test inside, the compiler no longer makes one function of the code
-// and the pins, and a step's answer is copied three times more.)
+// shows. Each cause counts where IER enables its interrupt. (With that test inside, the compiler no longer
+// makes one function of the code and the pins, and a step's answer is copied three times more.)
 #[tactic(auto, unfolding(device::specs::Iir::line_status, device::specs::Iir::data_available, device::specs::Iir::time_out, device::specs::Iir::thr_empty, device::specs::Iir::modem_status, device::specs::Iir::interrupt_code))]
 pub fn interrupt_code(s: State, error: bool) -> u8
     requires { error ≡ any_error (shown_errors s) }

@@ -5,7 +5,7 @@ ghost use Rattle.queue.specs.Queue.{put_entry, take_entry, no_entries, no_entry,
 use crate::{Entry, EntryQueue, Errors, count_after, keeps, next_place, shift};
 use sheet::limits;
 
-// The entry of a place not in use.
+// The entry of a place not in use. (Of a derived Default the check knows the fields, each apart.)
 pub fn none() -> Entry
     ensures { result ≡ no_entry }
 {
@@ -50,7 +50,7 @@ pub fn rest_is_zero(q: EntryQueue) -> bool
     zero
 }
 
-// PE, FE and BI of the entry.
+// PE, FE and BI of the entry. (`Errors::from` would not say which of its fields they are.)
 pub fn errors_of(e: Entry) -> Errors
     ensures { result ≡ errors_of e }
 {

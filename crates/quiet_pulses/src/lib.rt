@@ -109,7 +109,8 @@ fn hears(loopback: bool, x: Frame, sin: u8, v: Receiver) -> u32
     0
 }
 
-// The frame m pulses later.
+// The frame m pulses later; the receiver, the idle count. Those of a single pulse stand in `line` and
+// `receiver`, each by the definition of its own.
 #[tactic(auto, unfolding(crate::specs::Quiet::shifted_by))]
 pub fn shift_by(m: u32, x: Frame) -> Frame
     ensures { result ≡ shifted_by m x }

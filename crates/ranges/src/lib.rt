@@ -80,7 +80,8 @@ pub fn latches_in_range(r: Registers, f: FifoControl, m: u32, n: u32, l: Latches
     queue_latches_in_range(f, m, n, l) && flow_latches_in_range(r, f, n, l)
 }
 
-// The lowest part of the state that breaks a range; 0 exactly where the state is well formed.
+// The lowest part of the state that breaks a range; 0 exactly where the state is well formed. A byte and no
+// Option, since the answers of the C interface take it as it stands.
 #[tactic(auto, unfolding(device::specs::Ranges::well_formed, device::specs::Ranges::part_of))]
 pub fn part_of(s: State) -> u8
     ensures lowest { result ≡ part_of s }

@@ -1,4 +1,5 @@
-// The numbers answered (document 01, "Numbers answered", and the requests of document 02).
+// The numbers answered (document 01, "Numbers answered", and the requests of document 02). They are bytes
+// and no enum, since the structs of the C interface and the lines of `calls` have them as they stand.
 pub const DONE: u8 = 0;
 
 // The state is not well formed.

@@ -1,4 +1,5 @@
-// The parts of the state (document 02 b): which one is bad where a state is not well formed.
+// The parts of the state (document 02 b): which one is bad where a state is not well formed. Bytes and no
+// enum, since the structs of the C interface have them beside the number answered.
 pub const NONE: u8 = 0;
 
 // IER, MCR, LCR, SCR, divisor and k.

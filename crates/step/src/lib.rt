@@ -1,6 +1,10 @@
 // The steps: what reset, a register read or write, a level on an input pin and ticks do to a
 // well-formed state. The public calls (`uart`) look at the state and the arguments first; a record of
 // a capture (`recorded`) stands for a step. A step leaves in place what it does not touch.
+//
+// That the state is well formed is asked by each call that needs it, here and in the crates above: a type
+// with that invariant would be taken apart at once, where C hands a plain struct over and where the loops
+// store the parts in place.
 #![tactic(auto)]
 
 ghost use Rattle.std.specs.Prelude.{◌≡◌, true, false, ◌<◌};
