@@ -160,8 +160,8 @@ long_decimal_is n h =
 pub word_long : (n after : ℕ) → length (word_of n after) ≡ length (long_decimal_of n) + 1
 word_long n after = length-append (long_decimal_of n) (after ∷ [])
 
-pub byte-room : (n : ℕ) → n < 256 → length (long_decimal_of n) ≤ 3
-byte-room n h = rw (← digits_among 17 2 n (omega arith)) (digits_room 2 n)
+pub byte_room : (n : ℕ) → n < 256 → length (long_decimal_of n) ≤ 3
+byte_room n h = rw (← digits_among 17 2 n (omega arith)) (digits_room 2 n)
 
 -- Writing a line.
 
@@ -203,10 +203,10 @@ module _ {ns from out : List ℕ} {i : ℕ} where
       sym (w.rest ∙ rw e (append-nil out))
 
 -- a line of k numbers takes at most 11 bytes for each
-pub line-room : (ns : List ℕ) → length (line_of ns) ≤ 11 * length ns
+pub line_room : (ns : List ℕ) → length (line_of ns) ≤ 11 * length ns
 unfolding line_of
-line-room [] = omega arith
-line-room (n ∷ ns) =
-    let r = line-room ns in
+line_room [] = omega arith
+line_room (n ∷ ns) =
+    let r = line_room ns in
     let d = decimal_room n in
     omega (arith, length-append (decimal_of n) (separator ns ∷ line_of ns))
