@@ -4,8 +4,8 @@ use Prim.Native.Nat.{◌-◌}
 use lib.ListN.{length}
 use Rattle.lines.proofs.answer_lines.Given as goal
 
-abbrev pub invariant-loop-end : goal.invariant-loop-end
-invariant-loop-end l = Answering (standing l.initial.t l.initial.kept) l.block l.from (length l.initial.out) (standing l.t l.kept) l.next l.out l.end
+abbrev pub invariant-loop-next : goal.invariant-loop-next
+invariant-loop-next g l = Answering (standing l.initial.t l.initial.kept) l.block l.from (standing l.t l.kept) l.next l.out.items
 
-abbrev pub decreases-loop-end : goal.decreases-loop-end
-decreases-loop-end l = length l.block - l.next
+abbrev pub decreases-loop-next : goal.decreases-loop-next
+decreases-loop-next g l = length l.block - l.next
