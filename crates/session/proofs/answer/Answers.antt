@@ -20,7 +20,7 @@ slice_bounds-load-end g c =
 pub load-requires : goal.load-requires
 load-requires g c =
     let h : state_count ≤ length c.args.numbers.now = rw c.in-Load.is at c.requires.c_in_bounds in
-    (search rules, record { numbers_len = length-take-le state_count c.args.numbers.now h; at_in_bounds = omega (arith, c.requires.longest_answer_in_bounds) })
+    (search rules, (length-take-le state_count c.args.numbers.now h, omega (arith, c.requires.longest_answer_in_bounds)))
 
 pub overflow_add-end : goal.overflow_add-end
 overflow_add-end g c =
@@ -34,12 +34,12 @@ overflow_add-end-in-Expect g c =
 
 pub expected-requires : goal.expected-requires
 expected-requires g c =
-    (search rules, record { room_le_most_room = rw c.in-Expect.is at c.requires.c_bound; longest_answer_in_bounds = search rules })
+    (search rules, (rw c.in-Expect.is at c.requires.c_bound, c.requires.longest_answer_in_bounds))
 
 pub put_answer-requires : goal.put_answer-requires
 put_answer-requires g c =
     let d = c.in_default in
-    (search rules, record { c_value = no_change _ d.not-Step d.not-Fresh d.not-Load d.not-Run d.not-Jump d.not-JumpRun d.not-Replay d.not-Expect; longest_answer_in_bounds = search rules })
+    (search rules, (no_change _ d.not-Step d.not-Fresh d.not-Load d.not-Run d.not-Jump d.not-JumpRun d.not-Replay d.not-Expect, c.requires.longest_answer_in_bounds))
 
 pub returns-in-Step : goal.returns-in-Step
 unfolding next_of kept_of said_of

@@ -11,11 +11,8 @@ use Rattle.session.proofs.answer_line.Goals as goal
 
 pub answer-requires : goal.answer-requires
 answer-requires g c =
-    (search rules, record {
-      c_in_bounds = search rules;
-      c_bound = subst (λ (x : Command). room_of x ≤ most_room) (sym c.command_of-c.ensures.value) (room_most _);
-      longest_answer_in_bounds = search rules;
-    })
+    let room = subst (λ (x : Command). room_of x ≤ most_room) (sym c.command_of-c.ensures.value) (room_most _) in
+    (search rules, (search rules, (room, c.requires.longest_answer_in_bounds)))
 
 pub returns : goal.returns
 returns g c =
