@@ -95,26 +95,6 @@ module _ {w₀ : Standing} {block : List ℕ} {from : ℕ} {w : Standing} {next 
             ∙ ap (λ (s : List ℕ). s ++ written_after w' [] (drop (stop + 1) block)) (sym p);
       }
 
-  pub answered-all : (size : ℕ) → Answering w₀ block from w next out → (stop : ℕ) → stop ≡ next + before 10 (drop next block) → stop ≡ length block → Answered w₀ block from w next false size
-  answered-all size a stop e h =
-      record {
-        inside = a.inside;
-        leads = a.leads;
-        all = λ _. simp length-drop (omega (arith, e));
-        progress = λ f. absurd (false≢true f);
-      }
-
-  pub answered_some : (size left : ℕ) → Answering w₀ block from w next out → left + length out ≡ size → left < longest_answer → Answered w₀ block from w next true size
-  answered_some size left a l h =
-      record {
-        inside = a.inside;
-        leads = a.leads;
-        all = λ f. absurd (false≢true (sym f));
-        progress = λ _ r.
-            let moved : (next ≡ from → ⊥) = λ z. absurd (omega (arith, ap length (a.none z))) in
-            omega (arith, a.started, moved);
-      }
-
 -- what is held of the bytes from `from` up to `to`
 pub held-part : (from to n : ℕ) (l : List ℕ) → n ≡ min (to - from) (suc longest_line) → take n (drop from l) ≡ held_of (drop from (take to l))
 held-part from to n l e = go (dec_le (to - from) (suc longest_line)) ∙ ap held_of (drop-take from to l)
@@ -126,12 +106,3 @@ held-part from to n l e = go (dec_le (to - from) (suc longest_line)) ∙ ap held
     go (no h) =
         let k : n ≡ suc longest_line = omega (arith, h) in
         rw k (sym (take-take (suc longest_line) (to - from) (drop from l) (omega (arith, h))))
-
--- the last line
-pub last_none : (w : Standing) (line : List ℕ) → length line ≡ 0 → [] ≡ last_said w line
-last_none w [] e = refl
-last_none w (c ∷ cs) e = absurd (omega arith)
-
-pub last_some : (w : Standing) (line : List ℕ) → (length line ≡ 0 → ⊥) → line_said w line ≡ last_said w line
-last_some w [] n = absurd (n refl)
-last_some w (c ∷ cs) n = refl

@@ -1,4 +1,4 @@
-use Rattle.std.proofs.Common.{◌+◌, ◌≤◌, length}
+use Rattle.std.proofs.Common.{◌+◌, ◌≤◌}
 use Rattle.command.specs.Command.{longest_line}
 use Rattle.calls.proofs.serve.Given as goal
 
