@@ -8,6 +8,7 @@ ghost use Rattle.session.specs.Session.{Standing, standing};
 ghost use Rattle.lines.specs.Lines.{reading, read_after, Led};
 ghost use Rattle.blocks.specs.Written.{AnswersOf, LastOf};
 
+use arrayvec::ArrayVec;
 use current::Session;
 use lines::Progress;
 use std::io;
@@ -50,15 +51,15 @@ fn write_last(rt: HostRuntime, s: Session, line: &[u8], answer: &[u8]) -> io::Re
 
 // Answers all lines of a block, unless an answer cannot be written, and answers where they end. A
 // block has no more lines than bytes, and each turn answers one at least.
-pub fn answer_block(
+pub fn answer_block<const N: usize>(
     rt: HostRuntime,
     block: &[u8],
     s: Session,
     numbers: &mut [u32; command::MOST_NUMBERS],
     kept: &mut [u32; numbers::COUNT],
-    out: &mut [u8],
+    out: &mut ArrayVec<u8, N>,
 ) -> io::Result<Part>
-    requires { longest_answer ≤ length out.old }
+    requires { longest_answer ≤ N }
     ensures block_value { IfOk result (λ p. read_after (standing s kept.old) [] block.now ≡ reading (standing p.session kept.new) (drop p.next block.now)) }
     ensures next_in_bounds { IfOk result (λ p. p.next ≤ length block.now) }
 {
@@ -68,7 +69,7 @@ pub fn answer_block(
     };
     for _ in 0..block.len() {
         let said = lines::answer_lines(p.session, block, p.next, numbers, kept, out);
-        write_answers(rt, p, block, said, kept, &out[..said.end])?;
+        write_answers(rt, p, block, said, kept, out)?;
         p = Part {
             session: said.session,
             next: said.next,
@@ -82,17 +83,17 @@ pub fn answer_block(
 
 // Answers the lines of a block's bytes up to `end`, which are what was held and what came after it,
 // and holds the rest.
-pub fn answer_read(
+pub fn answer_read<const N: usize>(
     rt: HostRuntime,
     s: Session,
     block: &mut [u8],
     end: usize,
     numbers: &mut [u32; command::MOST_NUMBERS],
     kept: &mut [u32; numbers::COUNT],
-    out: &mut [u8],
+    out: &mut ArrayVec<u8, N>,
 ) -> io::Result<Held>
     requires end_in_bounds { end ≤ length block.old }
-    requires longest_answer_in_bounds { longest_answer ≤ length out.old }
+    requires longest_answer_in_bounds { longest_answer ≤ N }
     ensures led { (w₀ : Standing) (input line came : List ℕ) → take end block.old ≡ line ++ came → Led w₀ input (standing s kept.old) line → IfOk result (λ h. Led w₀ (input ++ came) (standing h.session kept.new) (take h.used block.new)) }
     ensures used_bound { IfOk result (λ h. h.used ≤ suc longest_line) }
 {
@@ -105,16 +106,16 @@ pub fn answer_read(
 }
 
 // Answers the last line, if it lacks its newline.
-pub fn finish(
+pub fn finish<const N: usize>(
     rt: HostRuntime,
     s: Session,
     line: &[u8],
     numbers: &mut [u32; command::MOST_NUMBERS],
     kept: &mut [u32; numbers::COUNT],
-    out: &mut [u8],
+    out: &mut ArrayVec<u8, N>,
 ) -> io::Result<()>
-    requires { longest_answer ≤ length out.old }
+    requires { longest_answer ≤ N }
 {
-    let end = lines::answer_last(s, line, numbers, kept, out);
-    write_last(rt, s, line, &out[..end])
+    lines::answer_last(s, line, numbers, kept, out);
+    write_last(rt, s, line, out)
 }

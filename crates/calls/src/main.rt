@@ -5,14 +5,15 @@
 // than any valid one no more is held than shows that.
 #![tactic(auto)]
 
-ghost use Rattle.std.specs.Prelude.{◌≤◌, length};
-ghost use Rattle.current.specs.Current.{longest_answer};
-
+use arrayvec::ArrayVec;
 use blocks::Held;
 
 // What the program is.
 const HELP: &[u8] =
     b"usage: calls [--help]\n\nTakes calls from standard input, one to a line, and writes a line of answer for each:\nfresh, load V1 .. V351, state, reset, read A, write A B, sin V, modem V, tick, ticks N,\npins, forecast, level T, run N, replay V W.., part, divisor CLOCK RATE, expect V ROOM W..,\njump N, jumprun N.\nAny other line is answered bad.\n\nThe exit status is always 0. Where reading or writing fails, standard error says so,\nand nothing more is answered.\n";
+
+// How many bytes of answers are put before they are written.
+const ROOM: usize = 262144;
 
 // Reads and answers until the input ends. A proved loop has to end, so it has more turns than any run
 // uses up.
@@ -21,9 +22,8 @@ fn serve(
     block: &mut [u8; 65536],
     numbers: &mut [u32; command::MOST_NUMBERS],
     kept: &mut [u32; numbers::COUNT],
-    out: &mut [u8],
+    out: &mut ArrayVec<u8, ROOM>,
 )
-    requires { longest_answer ≤ length out.old }
 {
     let mut t = Held {
         session: current::start(),
@@ -42,7 +42,7 @@ fn run(rt: HostRuntime) {
     let mut block = [0u8; 65536];
     let mut numbers = [0u32; command::MOST_NUMBERS];
     let mut kept = [0u32; numbers::COUNT];
-    let mut out = [0u8; 262144];
+    let mut out = ArrayVec::<u8, ROOM>::new();
     serve(rt, &mut block, &mut numbers, &mut kept, &mut out);
 }
 

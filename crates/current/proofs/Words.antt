@@ -6,7 +6,7 @@ use lib.ListN.{length, take, drop, replicate, length-append, length-replicate}
 use lib.Seq.{take-append_seam}
 use native.Mathlib.Omega.{arith}
 use Rattle.text.specs.Decimal.{line_of}
-use Rattle.text.proofs.Decimals.{line-room}
+use Rattle.text.proofs.Decimals.{line_room}
 use Rattle.command.specs.Command.{most_room}
 use Rattle.current.specs.Current.{longest_answer}
 
@@ -53,4 +53,4 @@ module _ (x room : ℕ) (h : room ≤ most_room) where
       words_count = omega (arith, long, ap length words_said)
 
       pub words-room : (at n : ℕ) → at + longest_answer ≤ n → at + length (line_of (take (room + 2) after)) ≤ n
-      words-room at n k = omega (arith, h, k, words_count, line-room (take (room + 2) after))
+      words-room at n k = omega (arith, h, k, words_count, line_room (take (room + 2) after))

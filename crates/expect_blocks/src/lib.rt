@@ -8,6 +8,7 @@ ghost use Rattle.expected_file.specs.File.{after, rest_of};
 ghost use Rattle.expect_blocks.specs.Written.{HeaderOf, NextOf, LastOf, NumberOfRest, NumberOf};
 
 use arguments::tell;
+use arrayvec::ArrayVec;
 use expected_file::Progress;
 use input::progress::Watch;
 use sheet::answer;
@@ -126,9 +127,9 @@ fn write_number(rt: HostRuntime, number: u8, line: &[u8])
 fn tell_number(rt: HostRuntime, number: u8)
     requires { NumberOf number }
 {
-    let mut line = [0u8; 4];
-    let end = decimal::put_word(u64::from(number), b'\n', &mut line, 0);
-    write_number(rt, number, &line[..end]);
+    let mut line = ArrayVec::<u8, 4>::new();
+    decimal::put_word(u64::from(number), b'\n', &mut line);
+    write_number(rt, number, &line);
 }
 
 // Writes what is expected for the capture that a reader gives, and tells the number of a

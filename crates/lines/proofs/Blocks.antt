@@ -4,12 +4,11 @@ use mathlib.Core.Path.{refl, ◌≡◌, sym, ap, ◌∙◌}
 use mathlib.Core.Bool.{Bool, true, false, cond, false≢true}
 use mathlib.Core.List.{List, [], ◌∷◌, ◌++◌, append_assoc, append-nil}
 use lib.ListN.{length, take, drop, length-take, length-drop}
-use lib.Seq.{take_all, take-take, drop-drop, length-take-le}
+use lib.Seq.{take_all, take-take, drop-drop}
 use lib.Dec.{eqb}
 use native.Mathlib.Decide.{dec_le}
 use native.Mathlib.Omega.{arith}
-use Rattle.text.specs.Text.{before, Appended}
-use Rattle.text.proofs.Texts.{appended_room}
+use Rattle.text.specs.Text.{before}
 use Rattle.command.specs.Command.{longest_line}
 use Rattle.current.specs.Current.{longest_answer}
 use Rattle.session.specs.Session.{Standing, line_said, line_next}
@@ -65,23 +64,20 @@ module _ (w : Standing) where
   unfolding read_after
   read_no_line d e = ap (read_after w []) (sym (append-nil d)) ∙ read-part [] d [] e
 
--- Answering: the lines before place next are made, and their answers stand up to `end`.
-pub record Answering (w₀ : Standing) (block : List ℕ) (from long : ℕ) (w : Standing) (next : ℕ) (out : List ℕ) (end : ℕ) : Type 0 where
+-- Answering: the lines before place next are made, and out holds their answers.
+pub record Answering (w₀ : Standing) (block : List ℕ) (from : ℕ) (w : Standing) (next : ℕ) (out : List ℕ) : Type 0 where
   pub inside : next ≤ length block
-  pub room : end ≤ length out
-  pub same : length out ≡ long
   pub started : from ≤ next
-  pub none : next ≡ from → end ≡ 0
+  pub none : next ≡ from → out ≡ []
   pub leads : read_after w₀ [] (drop from block) ≡ read_after w [] (drop next block)
-  pub written : written_after w₀ [] (drop from block) ≡ take end out ++ written_after w [] (drop next block)
+  pub written : Answers w₀ block from w next out
 
-module _ {w₀ : Standing} {block : List ℕ} {from long : ℕ} {w : Standing} {next : ℕ} {out : List ℕ} {end : ℕ} where
-  pub answer_turns : (w' : Standing) (stop : ℕ) (out' : List ℕ) (end' : ℕ)
-      → Answering w₀ block from long w next out end → stop ≡ next + before 10 (drop next block) → stop < length block
-      → length out' ≡ length out
-      → w' ≡ line_next w (take (stop - next) (drop next block)) → Appended out end (line_said w (take (stop - next) (drop next block))) out' end'
-      → Answering w₀ block from long w' (stop + 1) out' end'
-  answer_turns w' stop out' end' a e h l n p =
+module _ {w₀ : Standing} {block : List ℕ} {from : ℕ} {w : Standing} {next : ℕ} {out : List ℕ} where
+  pub answer_turns : (w' : Standing) (stop : ℕ) (out' : List ℕ)
+      → Answering w₀ block from w next out → stop ≡ next + before 10 (drop next block) → stop < length block
+      → w' ≡ line_next w (take (stop - next) (drop next block)) → out' ≡ out ++ line_said w (take (stop - next) (drop next block))
+      → Answering w₀ block from w' (stop + 1) out'
+  answer_turns w' stop out' a e h n p =
       let d : List ℕ = drop next block in
       let k : before 10 d ≡ stop - next = omega (arith, e) in
       let b : before 10 d < length d = simp length-drop (omega (arith, e)) in
@@ -89,39 +85,14 @@ module _ {w₀ : Standing} {block : List ℕ} {from long : ℕ} {w : Standing} {
       let f : drop (suc (before 10 d)) d ≡ drop (stop + 1) block = drop-drop (suc (before 10 d)) next block ∙ rw j in
       record {
         inside = omega arith;
-        room = appended_room out end _ out' end' p a.room;
-        same = l ∙ a.same;
         started = omega (arith, a.started, e);
         none = λ z. absurd (omega (arith, a.started, e));
         leads = a.leads ∙ read-line w [] d b ∙ rw (f, k, ← n);
         written =
             a.written
-            ∙ ap (λ (s : List ℕ). take end out ++ s) (written-line w [] d b ∙ rw (f, k, ← n))
-            ∙ sym (append_assoc (take end out) (line_said w (take (stop - next) d)) (written_after w' [] (drop (stop + 1) block)))
-            ∙ ap (λ (s : List ℕ). s ++ written_after w' [] (drop (stop + 1) block)) (sym p.holds);
-      }
-
-  pub answers : Answering w₀ block from long w next out end → Answers w₀ block from w next out end
-  answers a = record { room = a.room; counted = sym (length-take-le end out a.room); written = a.written }
-
-  pub answered-all : Answering w₀ block from long w next out end → (stop : ℕ) → stop ≡ next + before 10 (drop next block) → stop ≡ length block → Answered w₀ block from w next false long
-  answered-all a stop e h =
-      record {
-        inside = a.inside;
-        leads = a.leads;
-        all = λ _. simp length-drop (omega (arith, e));
-        progress = λ f. absurd (false≢true f);
-      }
-
-  pub answered_some : Answering w₀ block from long w next out end → length out < end + longest_answer → Answered w₀ block from w next true long
-  answered_some a h =
-      record {
-        inside = a.inside;
-        leads = a.leads;
-        all = λ f. absurd (false≢true (sym f));
-        progress = λ _ r.
-            let moved : (next ≡ from → ⊥) = λ z. absurd (omega (arith, a.none z, a.same)) in
-            omega (arith, a.started, moved);
+            ∙ ap (λ (s : List ℕ). out ++ s) (written-line w [] d b ∙ rw (f, k, ← n))
+            ∙ sym (append_assoc out (line_said w (take (stop - next) d)) (written_after w' [] (drop (stop + 1) block)))
+            ∙ ap (λ (s : List ℕ). s ++ written_after w' [] (drop (stop + 1) block)) (sym p);
       }
 
 -- what is held of the bytes from `from` up to `to`
@@ -135,12 +106,3 @@ held-part from to n l e = go (dec_le (to - from) (suc longest_line)) ∙ ap held
     go (no h) =
         let k : n ≡ suc longest_line = omega (arith, h) in
         rw k (sym (take-take (suc longest_line) (to - from) (drop from l) (omega (arith, h))))
-
--- the last line
-pub last_none : (w : Standing) (line out : List ℕ) → length line ≡ 0 → take 0 out ≡ last_said w line
-last_none w [] out e = refl
-last_none w (c ∷ cs) out e = absurd (omega arith)
-
-pub last_some : (w : Standing) (line out out' : List ℕ) (end : ℕ) → (length line ≡ 0 → ⊥) → Appended out 0 (line_said w line) out' end → take end out' ≡ last_said w line
-last_some w [] out out' end n p = absurd (n refl)
-last_some w (c ∷ cs) out out' end n p = p.holds

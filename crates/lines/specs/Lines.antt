@@ -39,12 +39,10 @@ pub record Answered (w : Standing) (block : List ℕ) (from : ℕ) (w' : Standin
   pub all : full ≡ false → before 10 (drop next block) ≡ length (drop next block)
   pub progress : full ≡ true → longest_answer ≤ room → from < next
 
--- Their answers: `out` holds them up to `end`, and what is written for the rest comes after them.
-pub record Answers (w : Standing) (block : List ℕ) (from : ℕ) (w' : Standing) (next : ℕ) (out : List ℕ) (end : ℕ)
-    : Type 0 where
-  pub room : end ≤ length out
-  pub counted : end ≡ length (take end out)
-  pub written : written_after w [] (drop from block) ≡ take end out ++ written_after w' [] (drop next block)
+-- Their answers: `out` holds them, and what is written for the rest comes after them.
+abbrev pub Answers : Standing → List ℕ → ℕ → Standing → ℕ → List ℕ → Type 0
+Answers w block from w' next out =
+    written_after w [] (drop from block) ≡ out ++ written_after w' [] (drop next block)
 
 -- Between two reads.
 

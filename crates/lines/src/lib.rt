@@ -2,11 +2,13 @@
 #![tactic(auto)]
 
 ghost use Rattle.std.specs.Prelude.{◌≡◌, suc, ◌≤◌, length, take, drop};
+ghost use Rattle.arrayvec.specs.ArrayVec.{array_vec_len};
 ghost use Rattle.command.specs.Command.{longest_line};
 ghost use Rattle.current.specs.Current.{longest_answer};
 ghost use Rattle.session.specs.Session.{standing};
 ghost use Rattle.lines.specs.Lines.{last_said, Answered, Answers, held_of};
 
+use arrayvec::ArrayVec;
 use command::MOST_NUMBERS;
 use current::{LONGEST_ANSWER, Session};
 use numbers::COUNT;
@@ -18,52 +20,47 @@ const NEWLINE: u8 = b'\n';
 const HELD: usize = command::LONGEST_LINE + 1;
 
 // Where the answering of a block stands: the current state, the place in the block after the last
-// line answered, the end of the answers, and whether it stopped for want of room: a flag, since the
-// other fields hold in either case.
+// line answered, and whether it stopped for want of room: a flag, since the other fields hold in
+// either case.
 #[derive(Clone, Copy)]
 pub struct Progress {
     pub session: Session,
     pub next: usize,
-    pub end: usize,
     pub full: bool,
 }
 
 // Answers the whole lines of a block from `from` on, until none is left or the next answer may have
 // no room.
-pub fn answer_lines(
+pub fn answer_lines<const N: usize>(
     s: Session,
     block: &[u8],
     from: usize,
     numbers: &mut [u32; MOST_NUMBERS],
     kept: &mut [u32; COUNT],
-    out: &mut [u8],
+    out: &mut ArrayVec<u8, N>,
 ) -> Progress
     requires from_in_bounds { from ≤ length block.now }
-    ensures answered { Answered (standing s kept.old) block.now from (standing result.session kept.new) result.next result.full (length out.old) }
-    ensures answers { Answers (standing s kept.old) block.now from (standing result.session kept.new) result.next out.new result.end }
+    ensures answered { Answered (standing s kept.old) block.now from (standing result.session kept.new) result.next result.full N }
+    ensures answers { Answers (standing s kept.old) block.now from (standing result.session kept.new) result.next out.new.items }
 {
     let mut t = s;
     let mut next = from;
-    let mut end: usize = 0;
-    while end + LONGEST_ANSWER <= out.len() {
+    out.clear();
+    while out.remaining_capacity() >= LONGEST_ANSWER {
         let stop = words::find(block, next, NEWLINE);
         if stop == block.len() {
             return Progress {
                 session: t,
                 next,
-                end,
                 full: false,
             };
         }
-        let said = session::answer_line(t, &block[next..stop], numbers, kept, out, end);
-        t = said.session;
-        end = said.end;
+        t = session::answer_line(t, &block[next..stop], numbers, kept, out);
         next = stop + 1;
     }
     Progress {
         session: t,
         next,
-        end,
         full: true,
     }
 }
@@ -82,23 +79,19 @@ pub fn hold(block: &mut [u8], from: usize, to: usize) -> usize
     n
 }
 
-// Answers what is left at the end of the input: a line that lacks its newline, or nothing. Answers
-// the end of the answer.
-pub fn answer_last(
+// Answers what is left at the end of the input: a line that lacks its newline, or nothing.
+pub fn answer_last<const N: usize>(
     s: Session,
     line: &[u8],
     numbers: &mut [u32; MOST_NUMBERS],
     kept: &mut [u32; COUNT],
-    out: &mut [u8],
-) -> usize
-    requires longest_answer_in_bounds { longest_answer ≤ length out.old }
-    ensures out_after { take result out.new ≡ last_said (standing s kept.old) line.now }
-    ensures upper_bound { result ≤ length out.new }
-    ensures value { result ≡ length (take result out.new) }
+    out: &mut ArrayVec<u8, N>,
+)
+    requires longest_answer_in_bounds { longest_answer ≤ N }
+    ensures { out.new.items ≡ last_said (standing s kept.old) line.now }
 {
-    if line.len() == 0 {
-        return 0;
+    out.clear();
+    if line.len() > 0 {
+        session::answer_line(s, line, numbers, kept, out);
     }
-    let said = session::answer_line(s, line, numbers, kept, out, 0);
-    said.end
 }

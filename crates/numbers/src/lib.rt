@@ -118,7 +118,7 @@ fn put_entries(entries: [Entry; limits::PLACES], out: &mut [u32], at: usize)
 {
     for (i, e) in entries.iter().enumerate() {
         let four = entry_numbers(*e);
-        buffer::put(&four, out, at + 4 * i);
+        buffer::put_at(&four, out, at + 4 * i);
     }
 }
 
@@ -127,17 +127,17 @@ pub fn put_state(s: State, out: &mut [u32; COUNT])
     ensures { out.new ≡ numbers_of s }
 {
     let settings = settings_numbers(s.registers, s.baud, s.fifo, s.inputs, s.tx.count);
-    buffer::put(&settings, out, 0);
+    buffer::put_at(&settings, out, 0);
     let tx = s.tx;
     let bytes = tx.bytes;
     put_bytes(bytes, out, TRANSMIT);
     let frame = frame_numbers(s);
-    buffer::put(&frame, out, FRAME);
+    buffer::put_at(&frame, out, FRAME);
     let rx = s.rx;
     let entries = rx.entries;
     put_entries(entries, out, RECEIVE);
     let receiver = receiver_numbers(s.receiver, s.latches, s.kept);
-    buffer::put(&receiver, out, RECEIVER);
+    buffer::put_at(&receiver, out, RECEIVER);
 }
 
 // The registers.

@@ -1,42 +1,44 @@
 // The line that says how a replay ended: agreed, differs, or refused.
 #![tactic(auto)]
 
-ghost use Rattle.std.specs.Prelude.{◌+◌, ◌≤◌, length};
-ghost use Rattle.text.specs.Text.{Appended};
+ghost use Rattle.std.specs.Prelude.{◌++◌, ◌≡◌, ◌+◌, ◌≤◌, length};
+ghost use Rattle.arrayvec.specs.ArrayVec.{array_vec_len};
 ghost use Rattle.outcome.specs.Outcome.{differs_line, refused_line, outcome_line};
 
+use arrayvec::ArrayVec;
 use capture::Outcome;
 use text::{buffer, decimal};
 
-// Puts the line of a byte that differs.
-fn put_differs(place: usize, seen: u8, model: u8, out: &mut [u8], at: usize) -> usize
-    requires { at + 40 ≤ length out.old }
-    ensures { Appended out.old at (differs_line place seen model) out.new result }
+// Appends the line of a byte that differs.
+fn put_differs<const N: usize>(place: usize, seen: u8, model: u8, out: &mut ArrayVec<u8, N>)
+    requires { array_vec_len out.old + 40 ≤ N }
+    ensures { out.new.items ≡ out.old.items ++ differs_line place seen model }
 {
-    let a = buffer::put(b"differs ", out, at);
-    let b = decimal::put_word(place as u64, b' ', out, a);
-    let c = decimal::put_word(seen as u64, b' ', out, b);
-    decimal::put_word(model as u64, b'\n', out, c)
+    buffer::put(b"differs ", out);
+    decimal::put_word(place as u64, b' ', out);
+    decimal::put_word(seen as u64, b' ', out);
+    decimal::put_word(model as u64, b'\n', out);
 }
 
-// Puts the line of a refusal.
-fn put_refused(number: u8, place: usize, out: &mut [u8], at: usize) -> usize
-    requires { at + 40 ≤ length out.old }
-    ensures { Appended out.old at (refused_line number place) out.new result }
+// Appends the line of a refusal.
+fn put_refused<const N: usize>(number: u8, place: usize, out: &mut ArrayVec<u8, N>)
+    requires { array_vec_len out.old + 40 ≤ N }
+    ensures { out.new.items ≡ out.old.items ++ refused_line number place }
 {
-    let a = buffer::put(b"refused ", out, at);
-    let b = decimal::put_word(number as u64, b' ', out, a);
-    decimal::put_word(place as u64, b'\n', out, b)
+    buffer::put(b"refused ", out);
+    decimal::put_word(number as u64, b' ', out);
+    decimal::put_word(place as u64, b'\n', out);
 }
 
-// Puts the line of an outcome into out from `at` on, and answers the place after its newline.
-pub fn put_outcome(o: Outcome, out: &mut [u8], at: usize) -> usize
-    requires { at + 40 ≤ length out.old }
-    ensures { Appended out.old at (outcome_line o) out.new result }
+// Appends the line of an outcome.
+#[tactic(auto, unfolding(crate::specs::Outcome::outcome_line))]
+pub fn put_outcome<const N: usize>(o: Outcome, out: &mut ArrayVec<u8, N>)
+    requires { array_vec_len out.old + 40 ≤ N }
+    ensures { out.new.items ≡ out.old.items ++ outcome_line o }
 {
     match o {
-        Outcome::Agreed => buffer::put(b"agreed\n", out, at),
-        Outcome::Differs { place, seen, model } => put_differs(place, seen, model, out, at),
-        Outcome::Refused { number, place, .. } => put_refused(number, place, out, at),
+        Outcome::Agreed => buffer::put(b"agreed\n", out),
+        Outcome::Differs { place, seen, model } => put_differs(place, seen, model, out),
+        Outcome::Refused { number, place, .. } => put_refused(number, place, out),
     }
 }

@@ -9,11 +9,9 @@ use native.Mathlib.Omega.{arith}
 use Rattle.command.specs.declared.Call.{Call}
 use Rattle.command.specs.declared.Command.{Command}
 use Rattle.current.specs.declared.Session.{Session}
-use Rattle.text.specs.Text.{Appended}
 use Rattle.command.specs.Command.{command_of, operands_of}
 use Rattle.current.specs.Commands.{said_of, next_of, kept_of, changes_nothing}
 use Rattle.session.specs.Session.{standing, line_said, line_next}
-use Rattle.text.proofs.Texts.{appended_as}
 
 -- what stands from one place of a list up to another
 pub drop-take : (from to : ℕ) (l : List ℕ) → take (to - from) (drop from l) ≡ drop from (take to l)
@@ -80,6 +78,6 @@ module _ (s : Session) (kept line ns : List ℕ) (c : Command) (e : c ≡ comman
   unfolding line_next
   line_next_lem t kept' p q = ap₂ standing (p ∙ ap₂ (next_of s) f e) (q ∙ ap₂ (kept_of kept) f e)
 
-  pub line_said_lem : {a b : List ℕ} {at end : ℕ} → Appended a at (said_of s kept ns c) b end → Appended a at (line_said (standing s kept) line) b end
+  pub line_said_lem : said_of s kept ns c ≡ line_said (standing s kept) line
   unfolding line_said
-  line_said_lem p = appended_as (ap₂ (said_of s kept) f e) p
+  line_said_lem = ap₂ (said_of s kept) f e

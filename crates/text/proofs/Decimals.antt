@@ -4,12 +4,13 @@ use mathlib.Core.Path.{◌≡◌, refl, sym, ap, ◌∙◌}
 use mathlib.Core.Bool.{Bool, true, false, cond}
 use Rattle.std.proofs.Common.{None, Some}
 use mathlib.Core.List.{List, [], ◌∷◌, ◌++◌, append_assoc, append-nil}
-use lib.ListN.{length, get_or, take, drop, length-append, drop_of_length-le}
+use lib.ListN.{length, get_or, drop, length-append, drop_of_length-le}
 use lib.Dec.{leb, ltb}
 use native.Mathlib.Omega.{arith}
 use borrow.Author.Tests.{lt-ltb, le-ltb, le-leb, lt-leb, eq-eqb, ne_eqb}
 use Rattle.text.specs.Decimal.{is_digit, value_after, number_after, number_of, glyph, digits_of, decimal_of, long_decimal_of, word_of, separator, line_of}
-use Rattle.text.specs.Text.{Appended}
+use Rattle.std.specs.Prelude.{decimal}
+use Rattle.std.proofs.lemmas.Fmt.{decimal_by_steps}
 use Rattle.text.proofs.Tests.{and_false}
 use Rattle.text.proofs.Texts.{drop_at}
 
@@ -149,11 +150,18 @@ decimal_room n = digits_room 9 n
 pub long_room : (n : ℕ) → length (long_decimal_of n) ≤ 20
 long_room n = digits_room 19 n
 
+-- the digits that the library writes
+pub long_decimal_is : (n : ℕ) → n < 2 ^ 64 → decimal n ≡ long_decimal_of n
+long_decimal_is n h =
+    decimal_by_steps (λ m ds. m < 2 ^ 64 → ds ≡ long_decimal_of m)
+    (λ m l k. one_digit m l)
+    (λ m ds l g k. ap (λ (es : List ℕ). es ++ (glyph (m % 10) ∷ [])) (g (omega arith)) ∙ last_digit m l k) n h h
+
 pub word_long : (n after : ℕ) → length (word_of n after) ≡ length (long_decimal_of n) + 1
 word_long n after = length-append (long_decimal_of n) (after ∷ [])
 
-pub byte-room : (n : ℕ) → n < 256 → length (long_decimal_of n) ≤ 3
-byte-room n h = rw (← digits_among 17 2 n (omega arith)) (digits_room 2 n)
+pub byte_room : (n : ℕ) → n < 256 → length (long_decimal_of n) ≤ 3
+byte_room n h = rw (← digits_among 17 2 n (omega arith)) (digits_room 2 n)
 
 -- Writing a line.
 
@@ -163,12 +171,10 @@ separates_more ns i h = rw (drop_at ns i 0 h)
 pub separates_last : (ns : List ℕ) (i : ℕ) → length ns ≤ i → 10 ≡ separator (drop i ns)
 separates_last ns i h = rw (drop_of_length-le ns h)
 
--- Writing a line into a buffer that held from: to holds the numbers before place i, up to end.
-pub record Writing (ns from : List ℕ) (at : ℕ) (to : List ℕ) (end i : ℕ) : Type 0 where
+-- Writing a line: out holds what it held at first and the numbers before place i.
+pub record Writing (ns from out : List ℕ) (i : ℕ) : Type 0 where
   pub most : i ≤ length ns
-  pub long : length to ≡ length from
-  pub rest : take at from ++ line_of ns ≡ take end to ++ line_of (drop i ns)
-  pub place : at + length (line_of ns) ≡ end + length (line_of (drop i ns))
+  pub rest : from ++ line_of ns ≡ out ++ line_of (drop i ns)
 
 write_at : (ns : List ℕ) (i : ℕ) → i < length ns → line_of (drop i ns) ≡ decimal_of (get_or ns i 0) ++ (separator (drop (i + 1) ns) ∷ line_of (drop (i + 1) ns))
 unfolding line_of
@@ -177,37 +183,30 @@ write_at ns i h = rw (drop_at ns i 0 h)
 write_long : (ns : List ℕ) (i : ℕ) → i < length ns → length (line_of (drop i ns)) ≡ length (decimal_of (get_or ns i 0)) + suc (length (line_of (drop (i + 1) ns)))
 write_long ns i h = ap length (write_at ns i h) ∙ length-append (decimal_of (get_or ns i 0)) (separator (drop (i + 1) ns) ∷ line_of (drop (i + 1) ns))
 
-module _ {ns from : List ℕ} {at : ℕ} {to : List ℕ} {end i : ℕ} where
-  pub write_room : (n : ℕ) → Writing ns from at to end i → i < length ns → at + length (line_of ns) ≤ length from → n ≡ get_or ns i 0 → n < 2 ^ 32 → end + length (long_decimal_of n) < length to
-  write_room n w h r e s = omega (arith, w.place, w.long, write_long ns i h, ap length (long_decimal n s), ap (λ (m : ℕ). length (decimal_of m)) e)
+module _ {ns from out : List ℕ} {i : ℕ} where
+  pub write_room : (n size : ℕ) → Writing ns from out i → i < length ns → length from + length (line_of ns) ≤ size → n ≡ get_or ns i 0 → n < 2 ^ 32 → length out + length (long_decimal_of n) < size
+  write_room n size w h r e s =
+      omega (arith, length-append from (line_of ns), length-append out (line_of (drop i ns)), ap length w.rest, write_long ns i h, ap length (long_decimal n s), ap (λ (m : ℕ). length (decimal_of m)) e)
 
-  pub write_turns : (to' : List ℕ) (next n v : ℕ) → Writing ns from at to end i → i < length ns → n ≡ get_or ns i 0 → n < 2 ^ 32 → v ≡ separator (drop (i + 1) ns) → length to' ≡ length to → Appended to end (word_of n v) to' next → Writing ns from at to' next (i + 1)
-  write_turns to' next n v w h e s d l p =
+  pub write_turns : (out' : List ℕ) (n v : ℕ) → Writing ns from out i → i < length ns → n ≡ get_or ns i 0 → n < 2 ^ 32 → v ≡ separator (drop (i + 1) ns) → out' ≡ out ++ word_of n v → Writing ns from out' (i + 1)
+  write_turns out' n v w h e s d p =
       let q : word_of n v ≡ decimal_of (get_or ns i 0) ++ (separator (drop (i + 1) ns) ∷ []) = ap (λ (ds : List ℕ). ds ++ (v ∷ [])) (long_decimal n s ∙ ap decimal_of e) ∙ rw d in
       record {
         most = omega arith;
-        long = l ∙ w.long;
-        rest =
-            w.rest
-            ∙ ap (λ (s : List ℕ). take end to ++ s) (write_at ns i h)
-            ∙ rw (p.holds, q) (simp append_assoc);
-        place = omega (arith, w.place, p.place, ap length q, length-append (decimal_of (get_or ns i 0)) (separator (drop (i + 1) ns) ∷ []), write_long ns i h);
+        rest = w.rest ∙ ap (λ (s : List ℕ). out ++ s) (write_at ns i h) ∙ rw (p, q) (simp append_assoc);
       }
 
-  pub write_ends : Writing ns from at to end i → length ns ≤ i → Appended from at (line_of ns) to end
+  pub write_ends : Writing ns from out i → length ns ≤ i → out ≡ from ++ line_of ns
   unfolding line_of
   write_ends w h =
       let e : line_of (drop i ns) ≡ [] = rw (drop_of_length-le ns h) in
-      record {
-        holds = sym (w.rest ∙ rw e (append-nil (take end to)));
-        place = omega (arith, w.place, ap length e);
-      }
+      sym (w.rest ∙ rw e (append-nil out))
 
 -- a line of k numbers takes at most 11 bytes for each
-pub line-room : (ns : List ℕ) → length (line_of ns) ≤ 11 * length ns
+pub line_room : (ns : List ℕ) → length (line_of ns) ≤ 11 * length ns
 unfolding line_of
-line-room [] = omega arith
-line-room (n ∷ ns) =
-    let r = line-room ns in
+line_room [] = omega arith
+line_room (n ∷ ns) =
+    let r = line_room ns in
     let d = decimal_room n in
     omega (arith, length-append (decimal_of n) (separator ns ∷ line_of ns))

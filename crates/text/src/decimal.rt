@@ -1,11 +1,12 @@
 // Decimal numbers: of 32 bits read from a word; of 64 bits, and signed ones of 32, written into a buffer.
-ghost use Rattle.std.specs.Prelude.{◌≡◌, ◌+◌, ◌≤◌, ◌<◌, length};
-ghost use Rattle.text.specs.Text.{Appended};
+ghost use Rattle.std.specs.Prelude.{◌≡◌, ◌+◌, ◌≤◌, ◌<◌, ◌++◌, length};
+ghost use Rattle.arrayvec.specs.ArrayVec.{array_vec_len};
 ghost use Rattle.text.specs.Decimal.{number_after, number_of, long_decimal_of, signed_of, word_of, signed_word_of, line_of};
 
-const ZERO: u8 = b'0';
+use crate::buffer;
+use arrayvec::ArrayVec;
 
-const MINUS: u8 = b'-';
+const ZERO: u8 = b'0';
 
 // The number of a word's digits.
 fn number_from(w: &[u8]) -> Option<u32>
@@ -34,61 +35,47 @@ pub fn number_of(w: &[u8]) -> Option<u32>
     number_from(w)
 }
 
-// Puts the digits of n into out from `at` on, and answers the place after them.
-pub fn put_number(n: u64, out: &mut [u8], at: usize) -> usize
-    requires { at + length (long_decimal_of n) ≤ length out.old }
-    ensures { Appended out.old at (long_decimal_of n) out.new result }
+// Appends the digits of n.
+pub fn put_number<const N: usize>(n: u64, out: &mut ArrayVec<u8, N>)
+    requires { array_vec_len out.old + length (long_decimal_of n) ≤ N }
+    ensures { out.new.items ≡ out.old.items ++ long_decimal_of n }
 {
-    if n < 10 {
-        out[at] = ZERO + n as u8;
-        return at + 1;
-    }
-    let end = put_number(n / 10, out, at);
-    out[end] = ZERO + (n % 10) as u8;
-    end + 1
+    buffer::put(itoa::Buffer::new().format(n).as_bytes(), out);
 }
 
-// Puts a signed number into out from `at` on, and answers the place after it.
-fn put_signed(n: i32, out: &mut [u8], at: usize) -> usize
-    requires { at + length (signed_of n) ≤ length out.old }
-    ensures { Appended out.old at (signed_of n) out.new result }
+// Appends a signed number.
+fn put_signed<const N: usize>(n: i32, out: &mut ArrayVec<u8, N>)
+    requires { array_vec_len out.old + length (signed_of n) ≤ N }
+    ensures { out.new.items ≡ out.old.items ++ signed_of n }
 {
-    if n < 0 {
-        out[at] = MINUS;
-        return put_number(u64::from(n.unsigned_abs()), out, at + 1);
-    }
-    put_number(u64::from(n.unsigned_abs()), out, at)
+    buffer::put(itoa::Buffer::new().format(n).as_bytes(), out);
 }
 
-// Puts the digits of n and the byte that follows them.
-pub fn put_word(n: u64, after: u8, out: &mut [u8], at: usize) -> usize
-    requires { at + length (long_decimal_of n) < length out.old }
-    ensures { Appended out.old at (word_of n after) out.new result }
+// Appends the digits of n and the byte that follows them.
+pub fn put_word<const N: usize>(n: u64, after: u8, out: &mut ArrayVec<u8, N>)
+    requires { array_vec_len out.old + length (long_decimal_of n) < N }
+    ensures { out.new.items ≡ out.old.items ++ word_of n after }
 {
-    let end = put_number(n, out, at);
-    out[end] = after;
-    end + 1
+    put_number(n, out);
+    out.push(after);
 }
 
-// Puts a signed number and the byte that follows it.
-pub fn put_signed_word(n: i32, after: u8, out: &mut [u8], at: usize) -> usize
-    requires { at + length (signed_of n) < length out.old }
-    ensures { Appended out.old at (signed_word_of n after) out.new result }
+// Appends a signed number and the byte that follows it.
+pub fn put_signed_word<const N: usize>(n: i32, after: u8, out: &mut ArrayVec<u8, N>)
+    requires { array_vec_len out.old + length (signed_of n) < N }
+    ensures { out.new.items ≡ out.old.items ++ signed_word_of n after }
 {
-    let end = put_signed(n, out, at);
-    out[end] = after;
-    end + 1
+    put_signed(n, out);
+    out.push(after);
 }
 
-// Puts a line of numbers into out from `at` on, and answers the place after its newline.
-pub fn put_line(numbers: &[u32], out: &mut [u8], at: usize) -> usize
-    requires { at + length (line_of numbers.now) ≤ length out.old }
-    ensures { Appended out.old at (line_of numbers.now) out.new result }
+// Appends a line of numbers, with its newline.
+pub fn put_line<const N: usize>(numbers: &[u32], out: &mut ArrayVec<u8, N>)
+    requires { array_vec_len out.old + length (line_of numbers.now) ≤ N }
+    ensures { out.new.items ≡ out.old.items ++ line_of numbers.now }
 {
-    let mut end = at;
     for (i, &n) in numbers.iter().enumerate() {
         let after = if i + 1 < numbers.len() { b' ' } else { b'\n' };
-        end = put_word(u64::from(n), after, out, end);
+        put_word(u64::from(n), after, out);
     }
-    end
 }

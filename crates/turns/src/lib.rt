@@ -7,6 +7,7 @@ ghost use Rattle.current.specs.Current.{longest_answer};
 ghost use Rattle.session.specs.Session.{Standing, standing};
 ghost use Rattle.lines.specs.Lines.{Led, LedOn};
 
+use arrayvec::ArrayVec;
 use blocks::Held;
 use std::io;
 use std::io::{ErrorKind, Read};
@@ -39,16 +40,16 @@ pub fn tell(rt: HostRuntime, written: io::Result<()>) {
 
 // Reads once, answers what came, and hands out what is held then; nothing where the run is over: the
 // input has ended, or a read or a write has failed.
-pub fn turn(
+pub fn turn<const N: usize>(
     rt: HostRuntime,
     t: Held,
     block: &mut [u8; 65536],
     numbers: &mut [u32; command::MOST_NUMBERS],
     kept: &mut [u32; numbers::COUNT],
-    out: &mut [u8],
+    out: &mut ArrayVec<u8, N>,
 ) -> Option<Held>
     requires used_bound { t.used ≤ suc longest_line }
-    requires longest_answer_in_bounds { longest_answer ≤ length out.old }
+    requires longest_answer_in_bounds { longest_answer ≤ N }
     ensures led_on { (w₀ : Standing) (input : List ℕ) → Led w₀ input (standing t.session kept.old) (take t.used block.old) → IfSome result (λ h. LedOn w₀ input (standing h.session kept.new) (take h.used block.new)) }
     ensures used_bound_2 { IfSome result (λ h. h.used ≤ suc longest_line) }
 {

@@ -4,7 +4,7 @@ use borrow.Author.Tests.{not-true}
 use Rattle.blocks.proofs.answer_block.Goals as goal
 
 pub returns-then-not-said-clause-block_value : goal.returns-then-not-said-clause-block_value
-returns-then-not-said-clause-block_value c = going_stops c.loop.invariant.1 (not-true _ c.if-not-said.true) c.answer_lines-said.ensures.answered
+returns-then-not-said-clause-block_value g c = going_stops c.loop.invariant (not-true _ c.if-not-said.true) c.answer_lines-said.ensures.answered
 
 pub returns-clause-block_value : goal.returns-clause-block_value
-returns-clause-block_value c = going_ends c.loop.invariant.1 c.loop-test.false
+returns-clause-block_value g c = going_ends c.loop.invariant c.loop-test.false

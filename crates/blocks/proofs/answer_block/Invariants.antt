@@ -1,9 +1,6 @@
-use Rattle.current.specs.Current.{longest_answer}
 use Rattle.session.specs.Session.{standing}
 use Rattle.blocks.proofs.Parts.{Going}
-use Prim.Native.Nat.{◌≤◌}
-use lib.ListN.{length}
 use Rattle.blocks.proofs.answer_block.Given as goal
 
 abbrev pub invariant-loop : goal.invariant-loop
-invariant-loop l = (longest_answer ≤ length l.out) × Going (standing l.fn.s l.fn.kept) l.block (standing l.p.session l.kept) l.p.next l.counter
+invariant-loop g l = Going (standing l.fn.s l.fn.kept) l.block (standing l.p.session l.kept) l.p.next l.counter

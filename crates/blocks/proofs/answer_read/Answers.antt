@@ -6,5 +6,5 @@ use mathlib.Core.List.{[]}
 use Rattle.blocks.proofs.answer_read.Goals as goal
 
 pub returns-clause-led : goal.returns-clause-led
-returns-clause-led c = λ w₀ input line came e led.
+returns-clause-led g c = λ w₀ input line came e led.
     led_on w₀ _ _ input line came _ led (ap (read_after _ []) (sym e) ∙ c.in_ok-p.ensures.block_value) ∙ ap (reading _) (sym c.hold-used.ensures.block_after)

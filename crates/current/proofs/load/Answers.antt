@@ -6,8 +6,6 @@ use Rattle.current.proofs.Parts.{load_part}
 use mathlib.Core.Path.{ap, ◌∙◌}
 use Rattle.current.proofs.load.Goals as goal
 
-pub returns : goal.returns
-returns c =
-    let copied = c.copy_from_slice.ensures.after in
-    let e = c.loaded.ensures ∙ ap loaded_of copied in
-    record { session_value = e; part = ap (λ (s : Session). part_of s.state) e ∙ load_part _; kept_after = copied; appended = c.put_numbers-end.ensures }
+pub returns-clause-part : goal.returns-clause-part
+returns-clause-part g c =
+    ap (λ (s : Session). part_of s.state) (c.loaded.ensures ∙ ap loaded_of c.copy_from_slice.ensures.after) ∙ load_part _

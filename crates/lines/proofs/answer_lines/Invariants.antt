@@ -4,8 +4,8 @@ use Prim.Native.Nat.{◌-◌}
 use lib.ListN.{length}
 use Rattle.lines.proofs.answer_lines.Given as goal
 
-abbrev pub invariant-loop-end : goal.invariant-loop-end
-invariant-loop-end l = Answering (standing l.initial.t l.initial.kept) l.block l.from (length l.initial.out) (standing l.t l.kept) l.next l.out l.end
+abbrev pub invariant-loop-stop : goal.invariant-loop-stop
+invariant-loop-stop g l = Answering (standing l.initial.t l.initial.kept) l.block l.from (standing l.t l.kept) l.next l.out.items
 
-abbrev pub decreases-loop-end : goal.decreases-loop-end
-decreases-loop-end l = length l.block - l.next
+abbrev pub decreases-loop-stop : goal.decreases-loop-stop
+decreases-loop-stop g l = length l.block - l.next

@@ -5,4 +5,4 @@ use Rattle.numbers.proofs.put_state.Goals as goal
 
 pub returns : goal.returns
 returns c =
-    numbers_put c.args.s c.settings_numbers-settings.ensures (rw c.put.ensures.place at c.put.ensures) c.put_bytes.ensures c.frame_numbers-frame.ensures (rw c.put-2.ensures.place at c.put-2.ensures) c.put_entries.ensures c.receiver_numbers-receiver.ensures (rw c.put-3.ensures.place at c.put-3.ensures) (search rules)
+    numbers_put c.args.s c.settings_numbers-settings.ensures (rw c.put_at.ensures.place at c.put_at.ensures) c.put_bytes.ensures c.frame_numbers-frame.ensures (rw c.put_at-2.ensures.place at c.put_at-2.ensures) c.put_entries.ensures c.receiver_numbers-receiver.ensures (rw c.put_at-3.ensures.place at c.put_at-3.ensures) (search rules)

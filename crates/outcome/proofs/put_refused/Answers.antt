@@ -1,14 +1,12 @@
--- One text after another.
-use Rattle.text.proofs.Texts.{appended_then}
-use Rattle.text.proofs.Decimals.{long_room, byte-room, word_long}
-use native.Mathlib.Omega.{arith}
+-- A place has twenty digits at most, and a number three.
+use Rattle.std.proofs.Common.{rules, arith, length-append}
+use Rattle.text.proofs.Decimals.{long_room, byte_room}
 use Rattle.outcome.proofs.put_refused.Goals as goal
 
-pub put_word-b-requires : goal.put_word-b-requires
-put_word-b-requires c = omega (arith, byte-room c.args.number (omega arith), c.put-a.auto.out, c.put-a.ensures.place)
-
 pub put_word-requires : goal.put_word-requires
-put_word-requires c = omega (arith, byte-room c.args.number (omega arith), word_long c.args.number 32, long_room c.args.place, c.put-a.auto.out, c.put-a.ensures.place, c.put_word-b.auto.out, c.put_word-b.ensures.place)
+put_word-requires g c =
+    (search rules, simp (c.put.ensures, length-append) (omega (arith, c.requires, byte_room c.args.number (omega arith))))
 
-pub returns : goal.returns
-returns c = appended_then c.put-a.ensures (appended_then c.put_word-b.ensures c.put_word.ensures)
+pub put_word-requires-2 : goal.put_word-requires-2
+put_word-requires-2 g c =
+    (search rules, simp (c.put_word.ensures, c.put.ensures, length-append) (omega (arith, c.requires, byte_room c.args.number (omega arith), long_room c.args.place)))

@@ -12,7 +12,7 @@ use lib.Seq.{take-add}
 use Rattle.turns.proofs.turn.Goals as goal
 
 pub returns-in-Err-clause-led_on : goal.returns-in-Err-clause-led_on
-returns-in-Err-clause-led_on c =
+returns-in-Err-clause-led_on g c =
     let block = c.read_after.new.block in
     λ w₀ input led.
     IfSome_then c.unread.result {P = λ h. h ≡ c.args.t} {Q = λ h. LedOn w₀ input (standing h.session c.args.kept.now) (take h.used block)} c.unread.ensures (λ h e. record {
@@ -24,7 +24,7 @@ returns-in-Err-clause-led_on c =
     })
 
 pub returns-in-Ok-answer_read-clause-led_on : goal.returns-in-Ok-answer_read-clause-led_on
-returns-in-Ok-answer_read-clause-led_on c =
+returns-in-Ok-answer_read-clause-led_on g c =
     let read = c.read_after in
     let used = c.args.t.used in
     let n = c.in-Ok.n in
