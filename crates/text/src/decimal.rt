@@ -35,12 +35,16 @@ pub fn number_of(w: &[u8]) -> Option<u32>
     number_from(w)
 }
 
-// Appends the digits of n.
+// Appends the digits of n. Most numbers of an answer have one digit, which needs no buffer of its own.
 pub fn put_number<const N: usize>(n: u64, out: &mut ArrayVec<u8, N>)
     requires { array_vec_len out.old + length (long_decimal_of n) ≤ N }
     ensures { out.new.items ≡ out.old.items ++ long_decimal_of n }
 {
-    buffer::put(itoa::Buffer::new().format(n).as_bytes(), out);
+    if n < 10 {
+        out.push(ZERO + n as u8);
+    } else {
+        buffer::put(itoa::Buffer::new().format(n).as_bytes(), out);
+    }
 }
 
 // Appends a signed number.
