@@ -23,8 +23,7 @@ fn serve(
     numbers: &mut [u32; command::MOST_NUMBERS],
     kept: &mut [u32; numbers::COUNT],
     out: &mut ArrayVec<u8, ROOM>,
-)
-{
+) {
     let mut t = Held {
         session: current::start(),
         used: 0,

@@ -82,7 +82,11 @@ fn loaded(n: &[u32; numbers::COUNT]) -> Session
 }
 
 // Puts the numbers of the current state.
-pub fn put_current<const N: usize>(s: Session, kept: &[u32; numbers::COUNT], out: &mut ArrayVec<u8, N>)
+pub fn put_current<const N: usize>(
+    s: Session,
+    kept: &[u32; numbers::COUNT],
+    out: &mut ArrayVec<u8, N>,
+)
     requires longest_answer_in_bounds { array_vec_len out.old + longest_answer ≤ N }
     ensures { out.new.items ≡ out.old.items ++ line_of (current_numbers s kept.now) }
 {
@@ -160,7 +164,12 @@ pub fn jump_ran<const N: usize>(s: Session, n: u32, out: &mut ArrayVec<u8, N>) -
 }
 
 // Replays records of a version, and puts the answer.
-pub fn replayed<const N: usize>(s: Session, version: u32, records: &[u32], out: &mut ArrayVec<u8, N>) -> Session
+pub fn replayed<const N: usize>(
+    s: Session,
+    version: u32,
+    records: &[u32],
+    out: &mut ArrayVec<u8, N>,
+) -> Session
     requires { array_vec_len out.old + 40 ≤ N }
     ensures value { result ≡ moved s (replay_of version s.state records.now).state }
     ensures appended { out.new.items ≡ out.old.items ++ outcome_line (replay_of version s.state records.now).outcome }
@@ -208,7 +217,11 @@ pub fn restart<const N: usize>(out: &mut ArrayVec<u8, N>) -> Session
 }
 
 // Loads numbers, and puts the answer.
-pub fn load<const N: usize>(numbers: &[u32], kept: &mut [u32; numbers::COUNT], out: &mut ArrayVec<u8, N>) -> Session
+pub fn load<const N: usize>(
+    numbers: &[u32],
+    kept: &mut [u32; numbers::COUNT],
+    out: &mut ArrayVec<u8, N>,
+) -> Session
     requires numbers_len { length numbers.now ≡ state_count }
     requires at_in_bounds { array_vec_len out.old + 11 ≤ N }
     ensures value { result ≡ loaded_of numbers.now }

@@ -14,7 +14,12 @@ use numbers::COUNT;
 use text::buffer;
 
 // Puts the answer of a command that changes nothing.
-pub fn put_answer<const N: usize>(s: Session, c: Command, kept: &[u32; COUNT], out: &mut ArrayVec<u8, N>)
+pub fn put_answer<const N: usize>(
+    s: Session,
+    c: Command,
+    kept: &[u32; COUNT],
+    out: &mut ArrayVec<u8, N>,
+)
     requires c_value { changes_nothing c ≡ true }
     requires longest_answer_in_bounds { array_vec_len out.old + longest_answer ≤ N }
     ensures { out.new.items ≡ out.old.items ++ said_of s kept.now [] c }

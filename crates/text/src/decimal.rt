@@ -35,7 +35,16 @@ pub fn number_of(w: &[u8]) -> Option<u32>
     number_from(w)
 }
 
-// Appends the digits of n. Most numbers of an answer have one digit, which needs no buffer of its own.
+// Appends the digits of n, as the library writes them.
+fn put_digits<const N: usize>(n: u64, out: &mut ArrayVec<u8, N>)
+    requires { array_vec_len out.old + length (long_decimal_of n) ≤ N }
+    ensures { out.new.items ≡ out.old.items ++ long_decimal_of n }
+{
+    buffer::put(itoa::Buffer::new().format(n).as_bytes(), out);
+}
+
+// Appends the digits of n. Most numbers of an answer have one, which takes no call.
+#[inline]
 pub fn put_number<const N: usize>(n: u64, out: &mut ArrayVec<u8, N>)
     requires { array_vec_len out.old + length (long_decimal_of n) ≤ N }
     ensures { out.new.items ≡ out.old.items ++ long_decimal_of n }
@@ -43,7 +52,7 @@ pub fn put_number<const N: usize>(n: u64, out: &mut ArrayVec<u8, N>)
     if n < 10 {
         out.push(ZERO + n as u8);
     } else {
-        buffer::put(itoa::Buffer::new().format(n).as_bytes(), out);
+        put_digits(n, out);
     }
 }
 
@@ -56,6 +65,7 @@ fn put_signed<const N: usize>(n: i32, out: &mut ArrayVec<u8, N>)
 }
 
 // Appends the digits of n and the byte that follows them.
+#[inline]
 pub fn put_word<const N: usize>(n: u64, after: u8, out: &mut ArrayVec<u8, N>)
     requires { array_vec_len out.old + length (long_decimal_of n) < N }
     ensures { out.new.items ≡ out.old.items ++ word_of n after }
