@@ -1,5 +1,5 @@
 -- Records followed one by one, with what is written so far.
-use Prim.Native.Nat.{ℕ, suc, ◌+◌, ◌≤◌, ◌<◌}
+use Prim.Native.Nat.{ℕ, suc, ◌+◌, ◌-◌, ◌≤◌, ◌<◌}
 use mathlib.Core.Path.{◌≡◌, refl, sym, ap, ◌∙◌}
 use mathlib.Core.Bool.{Bool, true, false, not, ◌&&◌}
 use mathlib.Core.List.{List, [], ◌∷◌, ◌++◌}
@@ -8,7 +8,7 @@ use lib.ListN.{length, take, drop, get_or, set, length-set, take-append-drop, dr
 use lib.Seq.{drop-cons, take-suc-set, drop-set-lt, drop-drop, set_out, take_all, append_snoc, length-take-le}
 use native.Mathlib.Decide.{dec_lt}
 use native.Mathlib.Omega.{arith}
-use borrow.Author.Tests.{ltb-true, not-false}
+use borrow.Author.Tests.{lt-ltb, ltb-true, not-false}
 use Rattle.flag.proofs.Laws.{and_left, and_right}
 use Rattle.recorder.specs.Record.{good}
 use Rattle.device.specs.declared.State.{State}
@@ -26,6 +26,10 @@ good-within ws place e = ltb-true place (length ws) (and_left (ltb place (length
 pub good_there : (ws : List ℕ) (place : ℕ) → good_at ws place ≡ true → good (get_or ws place 0) ≡ true
 unfolding good_at
 good_there ws place e = and_right (ltb place (length ws)) (good (get_or ws place 0)) e
+
+pub not_good : (ws : List ℕ) (place : ℕ) → place < length ws → good_at ws place ≡ false → good (get_or ws place 0) ≡ false
+unfolding good_at
+not_good ws place h e = simp (lt-ltb place (length ws) h) at e
 
 -- A bad record is not followed.
 pub not_followed : (compare : Bool) (t : State) (w : ℕ) → good w ≡ false → follows compare t w ≡ false

@@ -21,6 +21,16 @@ pub struct Stop {
     pub expected: u32,
 }
 
+// Whether a good record stands at a place.
+fn good_at(records: &[u32], place: usize) -> bool
+    ensures { result ≡ good_at records.now place }
+{
+    if records.len() <= place {
+        return false;
+    }
+    record::good(records[place])
+}
+
 // Whether a record, of which the model expects `expected`, is not followed.
 fn stops(compare: bool, w: u32, expected: u32) -> bool
     ensures { result ≡ (compare && not (eqb expected w)) }
@@ -40,8 +50,9 @@ fn put(w: u32, words: &mut [u32], place: usize)
 
 // Follows records from a well-formed state up to the first that is bad or, if the bytes seen are
 // compared, a read that differs, and writes each as the model expects it, as long as a word is left.
-// What a record does not touch of the state stays where it is. `compare` is no closure: `follow_of`
-// and the clause `again` name both of its values.
+// What a record does not touch of the state stays where it is. The loop counts its place and yields it
+// by its `break` (docs/DECISIONS.md, "One loop for both"). `compare` is no closure: `follow_of` and the
+// clause `again` name both of its values.
 pub fn follow(s: State, records: &[u32], words: &mut [u32], compare: bool) -> Stop
     requires { well_formed s ≡ true }
     ensures words_after { record { count = result.place; state = result.state; words = words.new } ≡ follow_of compare s records.now words.old }
@@ -51,16 +62,15 @@ pub fn follow(s: State, records: &[u32], words: &mut [u32], compare: bool) -> St
 {
     let mut t = s;
     let mut expected: u32 = 0;
-    let mut place = records.len();
-    for (i, &w) in records.iter().enumerate() {
-        if !record::good(w) {
-            place = i;
-            break;
+    let mut i: usize = 0;
+    let place = loop {
+        if !good_at(records, i) {
+            break i;
         }
+        let w = records[i];
         expected = recorded::expects(t, w);
         if stops(compare, w, expected) {
-            place = i;
-            break;
+            break i;
         }
         put(expected, words, i);
         match Way::of(t, w) {
@@ -85,7 +95,8 @@ pub fn follow(s: State, records: &[u32], words: &mut [u32], compare: bool) -> St
             Way::Ticks => t = recorded::ticks(t, w),
             Way::Other => t = recorded::other(t, w),
         }
-    }
+        i += 1;
+    };
     Stop {
         state: t,
         place,
