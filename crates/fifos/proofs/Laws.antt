@@ -1,15 +1,21 @@
 -- Laws of the definitions that the proofs use.
 use mathlib.Core.Path.{◌≡◌, refl, sym, ap}
+use mathlib.Core.Bool.{true}
 use mathlib.Core.List.{List, [], ◌∷◌}
+use lib.Dec.{eqb}
 use lib.ListN.{get_or, set}
 use Rattle.queue.specs.declared.Entry.{Entry}
 use Rattle.queue.specs.declared.Errors.{Errors}
 use Rattle.queue.specs.Queue.{no_entry, no_errors, errors_of}
 use Rattle.device.specs.declared.State.{State}
-use Rattle.device.specs.Rbr.{oldest}
+use Rattle.device.specs.Rbr.{oldest, rbr_read}
 use Rattle.device.specs.Lsr.{without_errors, clear_errors, lsr_read}
 
--- Where a read finds nothing to clear, the state stays.
+-- Where a read finds nothing to take or to clear, the state stays.
+
+pub rbr_kept : (s : State) → eqb s.rx.count 0 ≡ true → (rbr_read s).state ≡ s
+unfolding rbr_read
+rbr_kept s e = simp e
 
 -- the first place set to what stands there
 same_first : (xs : List Entry) (e : Entry) → e ≡ get_or xs 0 no_entry → set xs 0 e ≡ xs

@@ -2,16 +2,18 @@
 -- at place i, what a turn does and what the loop comes to.
 use Prim.Native.Nat.{ℕ, ◌+◌, ◌-◌, ◌≤◌, ◌<◌, min}
 use mathlib.Core.Path.{◌≡◌, refl, sym, ap, ◌∙◌}
-use mathlib.Core.Bool.{Bool, true, false, ◌&&◌, ◌||◌}
+use mathlib.Core.Bool.{Bool, true, false, cond, not, ◌&&◌, ◌||◌}
 use mathlib.Core.List.{List, [], ◌∷◌, ◌++◌, map}
 use lib.ListN.{length, get_or, drop, set, length-take, length-drop, length-map, drop_of_length-le}
 use lib.Seq.{paste, drop-cons, set_at, get_or-take, take_all}
 use native.Mathlib.Numerals.{add-one}
 use native.Mathlib.Omega.{arith}
-use lib.Dec.{leb}
-use borrow.Author.Tests.{leb-true, leb-false}
+use native.Mathlib.Decide.{dec_lt}
+use lib.Dec.{ltb, leb, eqb}
+use borrow.Author.Tests.{lt-ltb, le-ltb, le-leb, leb-true, leb-false, not-true, not-false}
 use Rattle.flag.specs.Flag.{all_of, any_of, implies}
-use Rattle.queue.specs.Queue.{shifted, contents}
+use Rattle.flag.proofs.Laws.{and_left, and_right}
+use Rattle.queue.specs.Queue.{places_put, count_put, shifted, contents}
 
 -- the length of an array of structs, from what owning it tells
 pub length_mapped : {A B : Type 0} (f : A → B) (xs : List A) (n : ℕ) → length (map f xs) ≡ n → length xs ≡ n
@@ -127,3 +129,24 @@ shift_copied {A} z xs ys n l w =
     let e : 0 + n ≡ n = omega arith in
     let copied : paste xs 0 s n ≡ s ++ get_or xs n z ∷ [] = rw (e, take_all n s m, drop_at xs n z k, drop_of_length-le xs o) refl in
     ap (λ (r : List A). set r n z) (w ∙ copied) ∙ set_at s (get_or xs n z) [] z n long
+
+-- A put: a full queue of more than one place keeps its places; else what is put has its place.
+
+module _ {A : Type 0} (c n : ℕ) (xs : List A) (v : A) where
+  pub put_keeps : (leb c n && not (eqb c 1)) ≡ true → (places_put c n xs v ≡ xs) × (count_put c n ≡ n)
+  unfolding places_put count_put
+  put_keeps e =
+      let full : c ≤ n = leb-true c n (and_left (leb c n) (not (eqb c 1)) e) in
+      let more : eqb c 1 ≡ false = not-true (eqb c 1) (and_right (leb c n) (not (eqb c 1)) e) in
+      (simp (le-ltb n c full, more), simp (le-ltb n c full))
+
+  pub put_places : (leb c n && not (eqb c 1)) ≡ false → places_put c n xs v ≡ set xs (cond (ltb n c) n 0) v
+  unfolding places_put
+  put_places e =
+      elim (dec_lt n c) [
+        | yes h ↦ simp (lt-ltb n c h)
+        | no h ↦
+            let full : c ≤ n = omega (arith, h) in
+            let one : eqb c 1 ≡ true = not-false (eqb c 1) (simp (le-leb c n full) at e) in
+            simp (le-ltb n c full, one)
+      ]
