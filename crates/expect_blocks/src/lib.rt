@@ -61,13 +61,15 @@ fn expect_block(rt: HostRuntime, p: Progress, block: &mut [u8; 32768]) -> io::Re
     Ok(q)
 }
 
-// Writes what is expected for a capture that ends with these bytes, and answers its number.
-fn expect_last(rt: HostRuntime, p: Progress, bytes: &mut [u8]) -> io::Result<u8>
-    ensures { IfOk result (λ number. number ≡ (rest_of p bytes.old).number) }
+// Writes what is expected for a capture that ends with the first n bytes of a block, and answers its
+// number.
+fn expect_last(rt: HostRuntime, p: Progress, block: &mut [u8], n: usize) -> io::Result<u8>
+    requires { n ≤ length block.old }
+    ensures { IfOk result (λ number. number ≡ (rest_of p (take n block.old)).number) }
 {
-    let r = expected_file::end(p, bytes);
-    let n = 4 * r.count;
-    write_last(rt, p, r, &bytes[..n])?;
+    let r = expected_file::end(p, &mut block[..n]);
+    let m = 4 * r.count;
+    write_last(rt, p, r, &block[..m])?;
     Ok(r.number)
 }
 
@@ -90,12 +92,12 @@ fn expect_records<R: Read>(
         }
         let n = input::fill(rt, input, block, done, PROGRAM, watch).map_err(Failure::Read)?;
         if n < block.len() {
-            return expect_last(rt, p, &mut block[..n]).map_err(Failure::Write);
+            return expect_last(rt, p, block, n).map_err(Failure::Write);
         }
         p = expect_block(rt, p, block).map_err(Failure::Write)?;
         done += p.count;
     }
-    expect_last(rt, p, &mut block[..0]).map_err(Failure::Write)
+    expect_last(rt, p, block, 0).map_err(Failure::Write)
 }
 
 // Writes what is expected for the capture that a reader gives, and answers the number of a refusal.

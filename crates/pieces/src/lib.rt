@@ -1,7 +1,7 @@
 // The bytes that were read, replayed piece by piece, with a word on how far the replay is.
 #![tactic(auto)]
 
-ghost use Rattle.std.specs.Prelude.{◌≡◌, List, ◌++◌, ℕ, ◌+◌, ◌*◌, ◌/◌, ◌≤◌, ◌^◌, length, drop};
+ghost use Rattle.std.specs.Prelude.{◌≡◌, List, ◌++◌, ℕ, ◌+◌, ◌*◌, ◌/◌, ◌≤◌, ◌^◌, length, take, drop};
 ghost use Rattle.capture_file.specs.File.{rest_of};
 
 use capture::Replayed;
@@ -51,4 +51,22 @@ pub fn finish(
     let q = go_on(rt, p, bytes, records, watch);
     let at = 4 * (bytes.len() / 4);
     capture_file::finish(q, &bytes[at..], records)
+}
+
+// The answer for a capture that ends with the first n bytes of a block.
+pub fn finish_block(
+    rt: HostRuntime,
+    p: Progress,
+    block: &[u8],
+    n: usize,
+    records: &mut [u32],
+    watch: &mut Watch,
+) -> Replayed
+    requires place_bound { p.place ≤ 2 ^ 63 }
+    requires n_in_bounds { n ≤ length block.now }
+    requires block_len_bound { length block.now ≤ 2 ^ 62 }
+    requires records_len { length records.old ≡ 512 }
+    ensures { result ≡ rest_of p (take n block.now) }
+{
+    finish(rt, p, &block[..n], records, watch)
 }

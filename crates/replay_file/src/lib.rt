@@ -37,7 +37,7 @@ fn replay_blocks<R: Read>(
         }
         let n = input::fill(rt, input, block, p.place, PROGRAM, watch)?;
         if n < block.len() {
-            return Ok(pieces::finish(rt, p, &block[..n], records, watch));
+            return Ok(pieces::finish_block(rt, p, block, n, records, watch));
         }
         p = pieces::go_on(rt, p, block, records, watch);
     }
