@@ -5,7 +5,7 @@ use std::time::Clock;
 
 // The second in which this was told last, whether to tell at all, and the records that were told. A flag
 // and no Option of the rest, which every call would take apart.
-#[derive(Drop)]
+#[derive(Clone, Copy)]
 pub struct Watch {
     second: u64,
     tells: bool,
