@@ -5,16 +5,18 @@ use mathlib.Core.Bool.{Bool, true, false}
 use mathlib.Core.List.{List}
 use lib.Dec.{ltb}
 use borrow.Author.Tests.{ltb-true, ltb-false}
+use native.Mathlib.Omega.{arith}
 use Rattle.capture.specs.declared.Outcome.{Outcome}
 use Rattle.capture_file.specs.declared.Progress.{Progress}
 use Rattle.capture.specs.declared.Replayed.{Replayed}
-use Rattle.capture.specs.Replay.{values_of}
+use Rattle.capture.specs.Replay.{values_of, refused}
+use Rattle.device.specs.declared.State.{State}
 use Rattle.client.specs.declared.Replay.{Replay}
-use Rattle.client.proofs.Agreed.{rest_told, told_by_rest}
+use Rattle.client.proofs.Agreed.{refused_told, rest_told, told_by_rest}
 use Rattle.capture_file.specs.File.{rest_of}
 use Rattle.client.specs.declared.file.Progress.{Progress as Carried}
 use Rattle.client.specs.Replay.{replay_answer, Told}
-use Rattle.client.specs.File.{stopped_by, outcome_of, carried_of, handed_of, rest_answer, ToldSoFar}
+use Rattle.client.specs.File.{stopped_by, outcome_of, carried_of, handed_of, beyond_of, rest_answer, ToldSoFar}
 
 same_outcome : (o : Outcome) → outcome_of (stopped_by o) (values_of o) ≡ o
 same_outcome Outcome.Agreed = refl
@@ -48,6 +50,9 @@ hands_on p r q₀ q l m er ep e =
 
 -- and so does what a client is told.
 
+pub beyond_told : (p r : Carried) → r ≡ beyond_of p → ToldSoFar r
+beyond_told p r e = subst (λ (x : Carried). ToldSoFar x) (sym e) (refused_told 1 0 0 (omega arith))
+
 pub more_told : (p r : Carried) (q₀ q : Progress) (l m : List ℕ) → r ≡ handed_of q → q₀ ≡ carried_of p → rest_of q l ≡ rest_of q₀ m → ToldSoFar p → ToldSoFar r
 more_told p r q₀ q l m er ep e t =
     let same : rest_of q l ≡ rest_of (carried_of p) m = e ∙ ap (λ (x : Progress). rest_of x m) ep in
@@ -58,3 +63,6 @@ Agreeing r o = r.values.number ≡ 0 → r.values.seen ≡ r.values.model → o 
 
 pub end_told : (p : Carried) (r : Replay) (bytes : List ℕ) → r ≡ rest_answer p bytes → ToldSoFar p → Agreeing r (rest_of (carried_of p) bytes).outcome
 end_told p r bytes e t = subst (λ (x : Replay). Agreeing x (rest_of (carried_of p) bytes).outcome) (sym e) (rest_told (carried_of p) bytes t)
+
+pub too_many_told : (s : State) (r : Replay) (o : Outcome) → r ≡ replay_answer (refused 1 s 0) → Agreeing r o
+too_many_told s r o e z f = absurd (omega (arith, z, ap (λ (x : Replay). x.values.number) e))
