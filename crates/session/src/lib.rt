@@ -24,7 +24,7 @@ use numbers::COUNT;
 pub fn answer<const N: usize>(
     s: Session,
     c: Command,
-    numbers: &[u32; MOST_NUMBERS],
+    numbers: &[u32],
     kept: &mut [u32; COUNT],
     out: &mut ArrayVec<u8, N>,
 ) -> Session
