@@ -43,7 +43,7 @@ fn put_digits<const N: usize>(n: u64, out: &mut ArrayVec<u8, N>)
     buffer::put(itoa::Buffer::new().format(n).as_bytes(), out);
 }
 
-// Appends the digits of n. Most numbers of an answer have one, which takes no call.
+// Appends the digits of n. Most numbers of an answer have one or two, which take no call.
 #[inline]
 pub fn put_number<const N: usize>(n: u64, out: &mut ArrayVec<u8, N>)
     requires { array_vec_len out.old + length (long_decimal_of n) ≤ N }
@@ -51,6 +51,9 @@ pub fn put_number<const N: usize>(n: u64, out: &mut ArrayVec<u8, N>)
 {
     if n < 10 {
         out.push(ZERO + n as u8);
+    } else if n < 100 {
+        out.push(ZERO + (n / 10) as u8);
+        out.push(ZERO + (n % 10) as u8);
     } else {
         put_digits(n, out);
     }
