@@ -6,20 +6,26 @@ ghost use Rattle.text.specs.Decimal.{number_after, number_of, long_decimal_of, s
 use crate::buffer;
 use arrayvec::ArrayVec;
 
+// The largest number.
+const MOST: u64 = u32::MAX as u64;
+
 const ZERO: u8 = b'0';
 
 // The number of a word's digits.
 fn number_from(w: &[u8]) -> Option<u32>
     ensures { result ≡ number_after 0 w.now }
 {
-    let mut value: u32 = 0;
+    let mut value: u64 = 0;
     for &c in w {
         if !c.is_ascii_digit() {
             return None;
         }
-        value = value.checked_mul(10)?.checked_add(u32::from(c - ZERO))?;
+        value = value * 10 + u64::from(c - ZERO);
+        if value > MOST {
+            return None;
+        }
     }
-    Some(value)
+    Some(value as u32)
 }
 
 // The number that a word spells: digits with no sign and no leading zero.
