@@ -11,6 +11,8 @@ const MOST: u64 = u32::MAX as u64;
 
 const ZERO: u8 = b'0';
 
+const MINUS: u8 = b'-';
+
 // The number of a word's digits.
 fn number_from(w: &[u8]) -> Option<u32>
     ensures { result ≡ number_after 0 w.now }
@@ -70,7 +72,10 @@ fn put_signed<const N: usize>(n: i32, out: &mut ArrayVec<u8, N>)
     requires { array_vec_len out.old + length (signed_of n) ≤ N }
     ensures { out.new.items ≡ out.old.items ++ signed_of n }
 {
-    buffer::put(itoa::Buffer::new().format(n).as_bytes(), out);
+    if n < 0 {
+        out.push(MINUS);
+    }
+    put_number(u64::from(n.unsigned_abs()), out);
 }
 
 // Appends the digits of n and the byte that follows them.
