@@ -1,5 +1,5 @@
 -- One digit or two are pushed.
-use Rattle.std.proofs.Common.{rules, ◌≡◌, ◌∙◌, ap, length, arith}
+use Rattle.std.proofs.Common.{rules, ◌∙◌, ap, arith}
 use mathlib.Core.List.{◌++◌}
 use Rattle.text.proofs.Decimals.{one_digit, one_long, two_appended, two_long}
 use Rattle.text.proofs.decimal.put_number.Goals as goal
