@@ -116,11 +116,26 @@ last_digit n h k =
     let l : n / 10 < 10 ^ 19 = omega arith in
     simp (le-ltb _ _ h) (ap (λ (ds : List ℕ). ds ++ (glyph (n % 10) ∷ [])) (sym (more_digits 18 (n / 10) l)))
 
+two_digits : (n : ℕ) → 10 ≤ n → n < 100 → glyph (n / 10) ∷ glyph (n % 10) ∷ [] ≡ long_decimal_of n
+two_digits n h l =
+    let d : n / 10 < 10 = omega arith in
+    let k : n < 2 ^ 64 = omega arith in
+    ap (λ (ds : List ℕ). ds ++ (glyph (n % 10) ∷ [])) (one_digit (n / 10) d) ∙ last_digit n h k
+
 pub one_long : (n : ℕ) → n < 10 → length (long_decimal_of n) ≡ 1
 one_long n h = ap length (sym (one_digit n h))
 
 pub more_long : (n : ℕ) → 10 ≤ n → n < 2 ^ 64 → length (long_decimal_of n) ≡ length (long_decimal_of (n / 10)) + 1
 more_long n h k = ap length (sym (last_digit n h k)) ∙ length-append (long_decimal_of (n / 10)) (glyph (n % 10) ∷ [])
+
+pub two_long : (n : ℕ) → 10 ≤ n → n < 100 → length (long_decimal_of n) ≡ 2
+two_long n h l = ap length (sym (two_digits n h l))
+
+-- two bytes appended are the text of n, where they are the characters of its digits
+pub two_appended : (from mid to : List ℕ) (n a b : ℕ) → 10 ≤ n → n < 100 → a ≡ glyph (n / 10) → b ≡ glyph (n % 10) → mid ≡ from ++ (a ∷ []) → to ≡ mid ++ (b ∷ []) → to ≡ from ++ long_decimal_of n
+two_appended from mid to n a b h l d e p q =
+    let two : to ≡ from ++ (glyph (n / 10) ∷ glyph (n % 10) ∷ []) = rw (q, p, d, e) (append_assoc from (glyph (n / 10) ∷ []) (glyph (n % 10) ∷ [])) in
+    two ∙ ap (λ (ds : List ℕ). from ++ ds) (two_digits n h l)
 
 digits_room : (k n : ℕ) → length (digits_of k n) ≤ suc k
 unfolding digits_of

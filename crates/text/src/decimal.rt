@@ -6,20 +6,28 @@ ghost use Rattle.text.specs.Decimal.{number_after, number_of, long_decimal_of, s
 use crate::buffer;
 use arrayvec::ArrayVec;
 
+// The largest number.
+const MOST: u64 = u32::MAX as u64;
+
 const ZERO: u8 = b'0';
+
+const MINUS: u8 = b'-';
 
 // The number of a word's digits.
 fn number_from(w: &[u8]) -> Option<u32>
     ensures { result ≡ number_after 0 w.now }
 {
-    let mut value: u32 = 0;
+    let mut value: u64 = 0;
     for &c in w {
         if !c.is_ascii_digit() {
             return None;
         }
-        value = value.checked_mul(10)?.checked_add(u32::from(c - ZERO))?;
+        value = value * 10 + u64::from(c - ZERO);
+        if value > MOST {
+            return None;
+        }
     }
-    Some(value)
+    Some(value as u32)
 }
 
 // The number that a word spells: digits with no sign and no leading zero.
@@ -43,7 +51,7 @@ fn put_digits<const N: usize>(n: u64, out: &mut ArrayVec<u8, N>)
     buffer::put(itoa::Buffer::new().format(n).as_bytes(), out);
 }
 
-// Appends the digits of n. Most numbers of an answer have one, which takes no call.
+// Appends the digits of n. Most numbers of an answer have one or two, which take no call.
 #[inline]
 pub fn put_number<const N: usize>(n: u64, out: &mut ArrayVec<u8, N>)
     requires { array_vec_len out.old + length (long_decimal_of n) ≤ N }
@@ -51,6 +59,9 @@ pub fn put_number<const N: usize>(n: u64, out: &mut ArrayVec<u8, N>)
 {
     if n < 10 {
         out.push(ZERO + n as u8);
+    } else if n < 100 {
+        out.push(ZERO + (n / 10) as u8);
+        out.push(ZERO + (n % 10) as u8);
     } else {
         put_digits(n, out);
     }
@@ -61,7 +72,10 @@ fn put_signed<const N: usize>(n: i32, out: &mut ArrayVec<u8, N>)
     requires { array_vec_len out.old + length (signed_of n) ≤ N }
     ensures { out.new.items ≡ out.old.items ++ signed_of n }
 {
-    buffer::put(itoa::Buffer::new().format(n).as_bytes(), out);
+    if n < 0 {
+        out.push(MINUS);
+    }
+    put_number(u64::from(n.unsigned_abs()), out);
 }
 
 // Appends the digits of n and the byte that follows them.

@@ -1,5 +1,5 @@
 -- The digits are those that the library writes.
-use Rattle.std.proofs.Common.{rules, ◌≡◌, ◌∙◌, ap, length, arith}
+use Rattle.std.proofs.Common.{rules, ◌∙◌, ap, length, arith}
 use mathlib.Core.List.{◌++◌}
 use Rattle.text.proofs.Decimals.{long_decimal_is}
 use Rattle.text.proofs.decimal.put_digits.Goals as goal
