@@ -131,11 +131,12 @@ more_long n h k = ap length (sym (last_digit n h k)) ∙ length-append (long_dec
 pub two_long : (n : ℕ) → 10 ≤ n → n < 100 → length (long_decimal_of n) ≡ 2
 two_long n h l = ap length (sym (two_digits n h l))
 
--- two bytes appended are the text of n, where they are the characters of its digits
-pub two_appended : (from mid to : List ℕ) (n a b : ℕ) → 10 ≤ n → n < 100 → a ≡ glyph (n / 10) → b ≡ glyph (n % 10) → mid ≡ from ++ (a ∷ []) → to ≡ mid ++ (b ∷ []) → to ≡ from ++ long_decimal_of n
-two_appended from mid to n a b h l d e p q =
-    let two : to ≡ from ++ (glyph (n / 10) ∷ glyph (n % 10) ∷ []) = rw (q, p, d, e) (append_assoc from (glyph (n / 10) ∷ []) (glyph (n % 10) ∷ [])) in
-    two ∙ ap (λ (ds : List ℕ). from ++ ds) (two_digits n h l)
+-- one or two characters and the byte that follows are the word of n, where they are those of its digits
+pub word_one : (n a after : ℕ) → n < 10 → a ≡ glyph n → a ∷ after ∷ [] ≡ word_of n after
+word_one n a after h e = rw e (ap (λ (ds : List ℕ). ds ++ (after ∷ [])) (one_digit n h))
+
+pub word_two : (n a b after : ℕ) → 10 ≤ n → n < 100 → a ≡ glyph (n / 10) → b ≡ glyph (n % 10) → a ∷ b ∷ after ∷ [] ≡ word_of n after
+word_two n a b after h l d e = rw (d, e) (ap (λ (ds : List ℕ). ds ++ (after ∷ [])) (two_digits n h l))
 
 digits_room : (k n : ℕ) → length (digits_of k n) ≤ suc k
 unfolding digits_of

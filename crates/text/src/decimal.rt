@@ -37,7 +37,10 @@ pub fn number_of(w: &[u8]) -> Option<u32>
     if w.is_empty() {
         return None;
     }
-    if w.len() > 1 && w[0] == ZERO {
+    if w.len() == 1 {
+        return number_from(w);
+    }
+    if w[0] == ZERO {
         return None;
     }
     number_from(w)
@@ -51,17 +54,13 @@ fn put_digits<const N: usize>(n: u64, out: &mut ArrayVec<u8, N>)
     buffer::put(itoa::Buffer::new().format(n).as_bytes(), out);
 }
 
-// Appends the digits of n. Most numbers of an answer have one or two, which take no call.
-#[inline]
+// Appends the digits of n.
 pub fn put_number<const N: usize>(n: u64, out: &mut ArrayVec<u8, N>)
     requires { array_vec_len out.old + length (long_decimal_of n) ≤ N }
     ensures { out.new.items ≡ out.old.items ++ long_decimal_of n }
 {
     if n < 10 {
         out.push(ZERO + n as u8);
-    } else if n < 100 {
-        out.push(ZERO + (n / 10) as u8);
-        out.push(ZERO + (n % 10) as u8);
     } else {
         put_digits(n, out);
     }
@@ -78,14 +77,21 @@ fn put_signed<const N: usize>(n: i32, out: &mut ArrayVec<u8, N>)
     put_number(u64::from(n.unsigned_abs()), out);
 }
 
-// Appends the digits of n and the byte that follows them.
+// Appends the digits of n and the byte that follows them. Most numbers of an answer have one digit or
+// two, which are appended with that byte at once.
 #[inline]
 pub fn put_word<const N: usize>(n: u64, after: u8, out: &mut ArrayVec<u8, N>)
     requires { array_vec_len out.old + length (long_decimal_of n) < N }
     ensures { out.new.items ≡ out.old.items ++ word_of n after }
 {
-    put_number(n, out);
-    out.push(after);
+    if n < 10 {
+        buffer::put(&[ZERO + n as u8, after], out);
+    } else if n < 100 {
+        buffer::put(&[ZERO + (n / 10) as u8, ZERO + (n % 10) as u8, after], out);
+    } else {
+        put_digits(n, out);
+        out.push(after);
+    }
 }
 
 // Appends a signed number and the byte that follows it.
