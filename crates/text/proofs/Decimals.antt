@@ -131,12 +131,29 @@ more_long n h k = ap length (sym (last_digit n h k)) ∙ length-append (long_dec
 pub two_long : (n : ℕ) → 10 ≤ n → n < 100 → length (long_decimal_of n) ≡ 2
 two_long n h l = ap length (sym (two_digits n h l))
 
--- one or two characters and the byte that follows are the word of n, where they are those of its digits
+three_digits : (n : ℕ) → 100 ≤ n → n < 1000 → glyph (n / 100) ∷ glyph (n / 10 % 10) ∷ glyph (n % 10) ∷ [] ≡ long_decimal_of n
+three_digits n h l =
+    let k : n < 2 ^ 64 = omega arith in
+    let ten : 10 ≤ n = omega arith in
+    let low : 10 ≤ n / 10 = omega arith in
+    let high : n / 10 < 100 = omega arith in
+    let d : n / 100 ≡ n / 10 / 10 = omega arith in
+    ap (λ (e : ℕ). glyph e ∷ glyph (n / 10 % 10) ∷ glyph (n % 10) ∷ []) d
+    ∙ ap (λ (ds : List ℕ). ds ++ (glyph (n % 10) ∷ [])) (two_digits (n / 10) low high)
+    ∙ last_digit n ten k
+
+pub three_long : (n : ℕ) → 100 ≤ n → n < 1000 → length (long_decimal_of n) ≡ 3
+three_long n h l = ap length (sym (three_digits n h l))
+
+-- up to three characters and the byte that follows are the word of n, where they are those of its digits
 pub word_one : (n a after : ℕ) → n < 10 → a ≡ glyph n → a ∷ after ∷ [] ≡ word_of n after
 word_one n a after h e = rw e (ap (λ (ds : List ℕ). ds ++ (after ∷ [])) (one_digit n h))
 
 pub word_two : (n a b after : ℕ) → 10 ≤ n → n < 100 → a ≡ glyph (n / 10) → b ≡ glyph (n % 10) → a ∷ b ∷ after ∷ [] ≡ word_of n after
 word_two n a b after h l d e = rw (d, e) (ap (λ (ds : List ℕ). ds ++ (after ∷ [])) (two_digits n h l))
+
+pub word_three : (n a b d after : ℕ) → 100 ≤ n → n < 1000 → a ≡ glyph (n / 100) → b ≡ glyph (n / 10 % 10) → d ≡ glyph (n % 10) → a ∷ b ∷ d ∷ after ∷ [] ≡ word_of n after
+word_three n a b d after h l e f g = rw (e, f, g) (ap (λ (ds : List ℕ). ds ++ (after ∷ [])) (three_digits n h l))
 
 digits_room : (k n : ℕ) → length (digits_of k n) ≤ suc k
 unfolding digits_of

@@ -77,8 +77,8 @@ fn put_signed<const N: usize>(n: i32, out: &mut ArrayVec<u8, N>)
     put_number(u64::from(n.unsigned_abs()), out);
 }
 
-// Appends the digits of n and the byte that follows them. Most numbers of an answer have one digit or
-// two, which are appended with that byte at once.
+// Appends the digits of n and the byte that follows them. Most numbers of an answer have one digit, and
+// a byte's have three at most: these are appended with what follows at once.
 #[inline]
 pub fn put_word<const N: usize>(n: u64, after: u8, out: &mut ArrayVec<u8, N>)
     requires { array_vec_len out.old + length (long_decimal_of n) < N }
@@ -88,6 +88,12 @@ pub fn put_word<const N: usize>(n: u64, after: u8, out: &mut ArrayVec<u8, N>)
         buffer::put(&[ZERO + n as u8, after], out);
     } else if n < 100 {
         buffer::put(&[ZERO + (n / 10) as u8, ZERO + (n % 10) as u8, after], out);
+    } else if n < 1000 {
+        let tens = ZERO + (n / 10 % 10) as u8;
+        buffer::put(
+            &[ZERO + (n / 100) as u8, tens, ZERO + (n % 10) as u8, after],
+            out,
+        );
     } else {
         put_digits(n, out);
         out.push(after);

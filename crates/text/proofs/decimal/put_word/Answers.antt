@@ -1,7 +1,7 @@
--- One digit or two are appended with the byte that follows them.
+-- One digit, two or three are appended with the byte that follows them.
 use Rattle.std.proofs.Common.{rules, ◌∙◌, ap, arith}
 use mathlib.Core.List.{◌++◌}
-use Rattle.text.proofs.Decimals.{one_long, two_long, word_one, word_two}
+use Rattle.text.proofs.Decimals.{one_long, two_long, three_long, word_one, word_two, word_three}
 use Rattle.text.proofs.decimal.put_word.Goals as goal
 
 pub put-requires : goal.put-requires
@@ -18,3 +18,11 @@ pub returns-then-n-lt100 : goal.returns-then-n-lt100
 returns-then-n-lt100 g c =
     c.put-then-n-lt100.ensures
     ∙ ap (λ ds. c.args.out.now.items ++ ds) (word_two c.args.n _ _ c.args.after c.if-n-lt10.false c.if-n-lt100.true (omega arith) (omega arith))
+
+pub put-requires-then-n-lt1000 : goal.put-requires-then-n-lt1000
+put-requires-then-n-lt1000 g c = (search rules, omega (arith, c.requires, three_long c.args.n c.if-n-lt100.false c.if-n-lt1000.true))
+
+pub returns-then-n-lt1000 : goal.returns-then-n-lt1000
+returns-then-n-lt1000 g c =
+    c.put-then-n-lt1000.ensures
+    ∙ ap (λ ds. c.args.out.now.items ++ ds) (word_three c.args.n _ _ _ c.args.after c.if-n-lt100.false c.if-n-lt1000.true (omega arith) (omega arith) (omega arith))
